@@ -1,0 +1,40 @@
+-- What checking says of any bytes, in the order in which it looks.
+use mathlib.Core.Bool.{Bool, not, _||_, cond}
+use mathlib.Core.List.{List}
+use Prim.Native.Nat.{ℕ, _+_, _*_}
+use lib.Dec.{eqb, ltb}
+use lib.ListN.{length, take, drop}
+use Rattle.std.specs.declared.option.Option.{Option}
+use Rattle.std.specs.declared.option.Option.the-variants.{Some, None}
+use Rattle.std.specs.shelf.Lists.{leading}
+use Rattle.tables.specs.declared.kind.Kind.{Kind}
+use Rattle.tables.specs.declared.fault.TableFault.{TableFault}
+use Rattle.tables.specs.declared.fault.TableFault.the-variants.{Length, States, Flag, Width, Entry}
+use Rattle.tables.specs.Layout.{most, target, statesOf, widthOf, sizeOf}
+
+abbrev pub flagFine : ℕ → Bool
+flagFine f = ltb f 2
+
+abbrev pub entryFine : Kind → ℕ → ℕ → Bool
+entryFine kind n e = ltb (target kind e) n
+
+-- how many flags, from the first, are fine without a bad one between
+abbrev pub fineFlags : List ℕ → ℕ
+fineFlags t = leading flagFine (take (statesOf t) (drop 1 t))
+
+abbrev pub fineEntries : Kind → List ℕ → ℕ
+fineEntries kind t = leading (entryFine kind (statesOf t)) (drop (2 + statesOf t) t)
+
+abbrev pub fullLength : List ℕ → ℕ
+fullLength t = 2 + statesOf t + statesOf t * sizeOf t
+
+abbrev pub checked : Kind → List ℕ → Option TableFault
+checked kind t =
+    cond (eqb (length t) 0) (Some Length)
+    (cond (eqb (statesOf t) 0 || ltb (most kind) (statesOf t)) (Some States)
+    (cond (ltb (length t) (2 + statesOf t)) (Some Length)
+    (cond (ltb (fineFlags t) (statesOf t)) (Some (Flag (1 + fineFlags t)))
+    (cond (ltb 6 (widthOf t)) (Some (Width (1 + statesOf t)))
+    (cond (not (eqb (length t) (fullLength t))) (Some Length)
+    (cond (ltb (fineEntries kind t) (statesOf t * sizeOf t)) (Some (Entry (2 + statesOf t + fineEntries kind t)))
+    None))))))
