@@ -68,15 +68,16 @@ pub lawful : (kind : Kind) (t : List ℕ) → isSome (checked kind t) ≡ false 
 lawful kind t e =
     let p = passed kind t e in
     record {
-    some-states = p .some;
-    few-states = p .few;
-    flags = λ s h. flag-fine t s h (omega arith);
-    narrow = p .narrow;
-    exact = p .exact;
-    entries = λ s a hs ha.
-        let w = row-within s (statesOf t) (sizeOf t) hs in
-        let z : rowStart t s + a ≡ 2 + statesOf t + (s * sizeOf t + a) = omega arith in
-        rw z (entry-fine kind t (s * sizeOf t + a) (omega arith)) }
+      some-states = p .some;
+      few-states = p .few;
+      flags = λ s h. flag-fine t s h (omega arith);
+      narrow = p .narrow;
+      exact = p .exact;
+      entries = λ s a hs ha.
+          let w = row-within s (statesOf t) (sizeOf t) hs in
+          let z : rowStart t s + a ≡ 2 + statesOf t + (s * sizeOf t + a) = omega arith in
+          rw z (entry-fine kind t (s * sizeOf t + a) (omega arith));
+    }
 
 head-long : (kind : Kind) (t : List ℕ) → Lawful kind t → 2 + statesOf t ≤ length t
 head-long kind t p = omega (arith, p .exact)
@@ -86,8 +87,8 @@ all-flags kind t p =
     let flags = take (statesOf t) (drop 1 t) in
     let n : length flags ≡ statesOf t = simp (length-take, length-drop) (omega (arith, p .exact)) in
     front-whole flagFine flags (λ k h.
-        let g : k < statesOf t = omega arith in
-        rw (flag-at t k g) (lt-ltb _ _ (omega (arith, p .flags k g)))) ∙ n
+    let g : k < statesOf t = omega arith in
+    rw (flag-at t k g) (lt-ltb _ _ (omega (arith, p .flags k g)))) ∙ n
 
 all-entries : (kind : Kind) (t : List ℕ) → Lawful kind t → fineEntries kind t ≡ statesOf t * sizeOf t
 all-entries kind t p =
@@ -97,14 +98,14 @@ all-entries kind t p =
     let len : length entries ≡ n * z = simp length-drop (omega (arith, p .exact)) in
     let pos = pow-pos (widthOf t) in
     front-whole (entryFine kind n) entries (λ k h.
-        let below : k < n * z = omega arith in
-        let q = k / z in
-        let r = k % z in
-        let whole : q * z + r ≡ k = div-add-mod' k z in
-        let here : target kind (entryOf t q r) < n = p .entries q r (div-below k z n pos below) (mod-below k z pos) in
-        let same : rowStart t q + r ≡ 2 + n + k = omega arith in
-        let there : target kind (getD t (2 + n + k) 0) < n = rw same at here in
-        rw (entry-at t k) (lt-ltb _ _ there)) ∙ len
+    let below : k < n * z = omega arith in
+    let q = k / z in
+    let r = k % z in
+    let whole : q * z + r ≡ k = div-add-mod' k z in
+    let here : target kind (entryOf t q r) < n = p .entries q r (div-below k z n pos below) (mod-below k z pos) in
+    let same : rowStart t q + r ≡ 2 + n + k = omega arith in
+    let there : target kind (getD t (2 + n + k) 0) < n = rw same at here in
+    rw (entry-at t k) (lt-ltb _ _ there)) ∙ len
 
 pub checked-lawful : (kind : Kind) (t : List ℕ) → Lawful kind t → isSome (checked kind t) ≡ false
 checked-lawful kind t p =

@@ -1,6 +1,5 @@
 -- What each fault of a table carries: its number, and the byte to blame.
 use Prim.Native.Nat.{ℕ}
-use lib.IntN.{ℤ, pos, negℤ}
 use Rattle.std.specs.declared.option.Option.{Option}
 use Rattle.std.specs.declared.option.Option.the-variants.{Some, None}
 use Rattle.tables.specs.declared.fault.TableFault.{TableFault}

@@ -84,7 +84,10 @@ fn examine(kind: Kind, bytes: &[u8]) -> Result<(), TableFault>
     if bytes.len() != 2 + states + rows {
         return Err(TableFault::Length);
     }
-    let fine = leading_fine(&EntryTest { kind, states: n }, &bytes[2 + states..bytes.len()]);
+    let fine = leading_fine(
+        &EntryTest { kind, states: n },
+        &bytes[2 + states..bytes.len()],
+    );
     if fine < rows {
         return Err(TableFault::Entry(2 + states + fine));
     }

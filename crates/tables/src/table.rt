@@ -12,6 +12,7 @@ use crate::fault::TableFault;
 use crate::kind::Kind;
 
 static ACCEPT_ALL: [u8; 4] = [1, 1, 0, 0];
+
 static MARK_ALL_IN: [u8; 4] = [1, 1, 0, 64];
 
 // A lawful table, borrowed. Whoever has one reads it without checking it again.

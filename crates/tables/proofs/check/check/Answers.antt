@@ -5,6 +5,7 @@ pub returns : need.returns
 returns c =
     let says = c .examine .ensures in
     record {
-    says = says;
-    lawful = decided (c .args .kind) (c .args .bytes .now) (c .examine .result) says;
-    blames = blamed (c .args .kind) (c .args .bytes .now) (c .examine .result) says }
+      says = says;
+      lawful = decided (c .args .kind) (c .args .bytes .now) (c .examine .result) says;
+      blames = blamed (c .args .kind) (c .args .bytes .now) (c .examine .result) says;
+    }

@@ -17,5 +17,6 @@ returns c =
     let read = getD-between t start (start + c .args .self .now .size) (c .args .letter) 0 (omega arith) in
     let is : c .entry-in .result ≡ entryOf t (c .args .state) (c .args .letter) = cc in
     record {
-    value = is;
-    leads = rw is (lawful (c .args .self .now .kind) t (c .args .self .now .lawful) .entries (c .args .state) (c .args .letter) (c .pre .0) (c .pre .1)) }
+      value = is;
+      leads = rw is (lawful (c .args .self .now .kind) t (c .args .self .now .lawful) .entries (c .args .state) (c .args .letter) (c .pre .0) (c .pre .1));
+    }

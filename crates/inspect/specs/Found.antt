@@ -1,0 +1,18 @@
+-- What is told of a table: its number of states and its width, or the fault.
+use mathlib.Core.List.{List}
+use Prim.Native.Nat.{ℕ}
+use Rattle.std.specs.declared.option.Option.{Option}
+use Rattle.std.specs.declared.option.Option.the-variants.{Some, None}
+use Rattle.tables.specs.declared.fault.TableFault.{TableFault}
+use Rattle.tables.specs.declared.kind.Kind.{Kind}
+use Rattle.tables.specs.Checked.{checked}
+use Rattle.tables.specs.Layout.{statesOf, widthOf}
+use Rattle.inspect.specs.declared.finding.Finding.{Finding}
+use Rattle.inspect.specs.declared.finding.Finding.the-variants.{Good, Refused}
+
+abbrev pub told : Option TableFault → List ℕ → Finding
+told None t = Good (statesOf t) (widthOf t)
+told (Some fault) t = Refused fault
+
+abbrev pub found : Kind → List ℕ → Finding
+found kind t = told (checked kind t) t
