@@ -49,8 +49,11 @@ passed kind t e = record { some = grind (arith, tells); few = grind (arith, tell
 flag-at : (t : List ℕ) (k : ℕ) → k < statesOf t → getD (take (statesOf t) (drop 1 t)) k 0 ≡ getD t (1 + k) 0
 flag-at t k h = getD-take (statesOf t) (drop 1 t) k 0 h ∙ getD-drop 1 t k 0
 
-entry-at : (t : List ℕ) (k : ℕ) → getD (drop (2 + statesOf t) t) k 0 ≡ getD t (2 + statesOf t + k) 0
-entry-at t k = getD-drop (2 + statesOf t) t k 0
+abbrev entriesOf : List ℕ → List ℕ
+entriesOf t = take (statesOf t * sizeOf t) (drop (2 + statesOf t) t)
+
+entry-at : (t : List ℕ) (k : ℕ) → k < statesOf t * sizeOf t → getD (entriesOf t) k 0 ≡ getD t (2 + statesOf t + k) 0
+entry-at t k h = getD-take (statesOf t * sizeOf t) (drop (2 + statesOf t) t) k 0 h ∙ getD-drop (2 + statesOf t) t k 0
 
 -- flags and entries up to the first bad one
 flag-fine : (t : List ℕ) (k : ℕ) → k < statesOf t → k < fineFlags t → getD t (1 + k) 0 ≤ 1
@@ -59,10 +62,10 @@ flag-fine t k g h =
     let f = ltb-true _ _ (rw (flag-at t k g) at e) in
     omega arith
 
-entry-fine : (kind : Kind) (t : List ℕ) (k : ℕ) → k < fineEntries kind t → target kind (getD t (2 + statesOf t + k) 0) < statesOf t
-entry-fine kind t k h =
-    let e : ltb (target kind (getD (drop (2 + statesOf t) t) k 0)) (statesOf t) ≡ true = front-passes (entryFine kind (statesOf t)) (drop (2 + statesOf t) t) k h in
-    ltb-true _ _ (rw (entry-at t k) at e)
+entry-fine : (kind : Kind) (t : List ℕ) (k : ℕ) → k < statesOf t * sizeOf t → k < fineEntries kind t → target kind (getD t (2 + statesOf t + k) 0) < statesOf t
+entry-fine kind t k g h =
+    let e : ltb (target kind (getD (entriesOf t) k 0)) (statesOf t) ≡ true = front-passes (entryFine kind (statesOf t)) (entriesOf t) k h in
+    ltb-true _ _ (rw (entry-at t k g) at e)
 
 pub lawful : (kind : Kind) (t : List ℕ) → isSome (checked kind t) ≡ false → Lawful kind t
 lawful kind t e =
@@ -76,7 +79,7 @@ lawful kind t e =
       entries = λ s a hs ha.
           let w = row-within s (statesOf t) (sizeOf t) hs in
           let z : rowStart t s + a ≡ 2 + statesOf t + (s * sizeOf t + a) = omega arith in
-          rw z (entry-fine kind t (s * sizeOf t + a) (omega arith));
+          rw z (entry-fine kind t (s * sizeOf t + a) (omega arith) (omega arith));
     }
 
 head-long : (kind : Kind) (t : List ℕ) → Lawful kind t → 2 + statesOf t ≤ length t
@@ -94,8 +97,8 @@ all-entries : (kind : Kind) (t : List ℕ) → Lawful kind t → fineEntries kin
 all-entries kind t p =
     let n = statesOf t in
     let z = sizeOf t in
-    let entries = drop (2 + n) t in
-    let len : length entries ≡ n * z = simp length-drop (omega (arith, p .exact)) in
+    let entries = entriesOf t in
+    let len : length entries ≡ n * z = simp (length-take, length-drop) (omega (arith, p .exact)) in
     let pos = pow-pos (widthOf t) in
     front-whole (entryFine kind n) entries (λ k h.
     let below : k < n * z = omega arith in
@@ -105,7 +108,7 @@ all-entries kind t p =
     let here : target kind (entryOf t q r) < n = p .entries q r (div-below k z n pos below) (mod-below k z pos) in
     let same : rowStart t q + r ≡ 2 + n + k = omega arith in
     let there : target kind (getD t (2 + n + k) 0) < n = rw same at here in
-    rw (entry-at t k) (lt-ltb _ _ there)) ∙ len
+    rw (entry-at t k below) (lt-ltb _ _ there)) ∙ len
 
 pub checked-lawful : (kind : Kind) (t : List ℕ) → Lawful kind t → isSome (checked kind t) ≡ false
 checked-lawful kind t p =
@@ -130,11 +133,11 @@ module _ (kind : Kind) (t : List ℕ) where
   blame-entry : length t ≡ fullLength t → fineEntries kind t < statesOf t * sizeOf t → Blames kind t (Entry (2 + statesOf t + fineEntries kind t))
   blame-entry exact h =
       let n = statesOf t in
-      let entries = drop (2 + n) t in
-      let len : length entries ≡ n * sizeOf t = simp length-drop (omega arith) in
+      let entries = entriesOf t in
+      let len : length entries ≡ n * sizeOf t = simp (length-take, length-drop) (omega arith) in
       let stop : ltb (target kind (getD entries (fineEntries kind t) 0)) n ≡ false = front-stops (entryFine kind n) entries (omega arith) in
-      let bad = ltb-false _ _ (rw (entry-at t (fineEntries kind t)) at stop) in
-      (omega arith, omega arith, bad, λ k a b. let z : 2 + n + (k - (2 + n)) ≡ k = omega arith in rw z at (entry-fine kind t (k - (2 + n)) (omega arith)))
+      let bad = ltb-false _ _ (rw (entry-at t (fineEntries kind t) h) at stop) in
+      (omega arith, omega arith, bad, λ k a b. let z : 2 + n + (k - (2 + n)) ≡ k = omega arith in rw z at (entry-fine kind t (k - (2 + n)) (omega arith) (omega arith)))
 
   pub blame : (f : TableFault) → checked kind t ≡ Some f → Blames kind t f
   blame Length e = λ exact. grind (arith, tells)

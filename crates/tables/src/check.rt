@@ -1,11 +1,13 @@
 ghost use mathlib.Core.Path.{_≡_};
 ghost use mathlib.Core.Bool.{Bool};
-ghost use Prim.Native.Nat.{ℕ};
+ghost use Prim.Native.Nat.{ℕ, _+_, _≤_};
+ghost use lib.ListN.{length};
 ghost use Rattle.std.specs.Orderings.{Decides};
 ghost use Rattle.std.specs.Results.{errPart, isOk};
-ghost use Rattle.std.specs.Vec.{refused};
+ghost use Rattle.std.specs.Vec.{made, refused};
 ghost use Rattle.std.specs.shelf.Lists.{leading};
-ghost use Rattle.tables.specs.Checked.{flagFine, entryFine, checked};
+ghost use Rattle.tables.specs.Checked.{flagFine, entryFine, headFault, bodyFault, checked};
+ghost use Rattle.tables.specs.Layout.{statesOf};
 ghost use Rattle.tables.specs.Lawful.{Lawful, Blames};
 use crate::fault::TableFault;
 use crate::kind::Kind;
@@ -57,9 +59,10 @@ fn leading_fine<B: ByteTest>(test: &B, bytes: &[u8]) -> usize
     bytes.len()
 }
 
-// Looks at the bytes in the order of the format, and stops at the first thing that is wrong.
-fn examine(kind: Kind, bytes: &[u8]) -> Result<(), TableFault>
-    ensures { λ r. ⌜ errPart r ≡ checked kind (now (bytes .entry)) ⌝ }
+// The number of states of a table that has room for its flags and its width.
+fn states_of(kind: Kind, bytes: &[u8]) -> Result<u8, TableFault>
+    ensures says { λ r. ⌜ errPart r ≡ headFault kind (now (bytes .entry)) ⌝ }
+    ensures value { λ r. ⌜ made r (λ n. (n ≡ statesOf (now (bytes .entry))) × (2 + n ≤ length (now (bytes .entry)))) ⌝ }
 {
     if bytes.len() == 0 {
         return Err(TableFault::Length);
@@ -68,10 +71,19 @@ fn examine(kind: Kind, bytes: &[u8]) -> Result<(), TableFault>
     if n == 0 || n > kind.most_states() {
         return Err(TableFault::States);
     }
-    let states = n as usize;
-    if bytes.len() < 2 + states {
+    if bytes.len() < 2 + n as usize {
         return Err(TableFault::Length);
     }
+    Ok(n)
+}
+
+// The flags, the width, the exact length and the entries, in this order.
+fn check_body(kind: Kind, bytes: &[u8], n: u8) -> Result<(), TableFault>
+    requires { ⌜ n ≡ statesOf (now bytes) ⌝ }
+    requires { ⌜ 2 + n ≤ length (now bytes) ⌝ }
+    ensures { λ r. ⌜ errPart r ≡ bodyFault kind (now (bytes .entry)) ⌝ }
+{
+    let states = n as usize;
     let fine = leading_fine(&FlagTest, &bytes[1..1 + states]);
     if fine < states {
         return Err(TableFault::Flag(1 + fine));
@@ -84,14 +96,20 @@ fn examine(kind: Kind, bytes: &[u8]) -> Result<(), TableFault>
     if bytes.len() != 2 + states + rows {
         return Err(TableFault::Length);
     }
-    let fine = leading_fine(
-        &EntryTest { kind, states: n },
-        &bytes[2 + states..bytes.len()],
-    );
+    let entries = &bytes[2 + states..2 + states + rows];
+    let fine = leading_fine(&EntryTest { kind, states: n }, entries);
     if fine < rows {
         return Err(TableFault::Entry(2 + states + fine));
     }
     Ok(())
+}
+
+// Looks at the bytes in the order of the format, and stops at the first thing that is wrong.
+fn examine(kind: Kind, bytes: &[u8]) -> Result<(), TableFault>
+    ensures { λ r. ⌜ errPart r ≡ checked kind (now (bytes .entry)) ⌝ }
+{
+    let n = states_of(kind, bytes)?;
+    check_body(kind, bytes, n)
 }
 
 // Whether the bytes are a lawful table of the kind: it succeeds exactly on lawful tables, and a fault

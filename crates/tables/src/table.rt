@@ -68,12 +68,6 @@ impl<'a> Table<'a> {
         }
     }
 
-    pub fn kind(&self) -> Kind
-        ensures { λ r. ⌜ r ≡ now (self .entry) .kind ⌝ }
-    {
-        self.kind
-    }
-
     pub fn states(&self) -> usize
         ensures { λ r. ⌜ r ≡ statesOf (now (now (self .entry) .bytes)) ⌝ }
     {
@@ -84,14 +78,6 @@ impl<'a> Table<'a> {
         ensures { λ r. ⌜ r ≡ widthOf (now (now (self .entry) .bytes)) ⌝ }
     {
         self.bytes[1 + self.states]
-    }
-
-    // The number of letters, 2 to the width.
-    pub fn size(&self) -> usize
-        ensures value { λ r. ⌜ r ≡ sizeOf (now (now (self .entry) .bytes)) ⌝ }
-        ensures narrow { λ r. ⌜ r ≤ 64 ⌝ }
-    {
-        self.size
     }
 
     // The flag of a state, if there is such a state.
