@@ -1,0 +1,37 @@
+pub mod reading;
+
+ghost use mathlib.Core.Path.{_≡_};
+ghost use Prim.Native.Nat.{_<_};
+ghost use Rattle.patterns.specs.Places.{always};
+ghost use Rattle.patterns.specs.contracts.always.reading.AlwaysPattern.the-impl.{ghosts};
+ghost use Rattle.rules.specs.declared.refusal.SettingRefusal.the-variants.{Range};
+ghost use Rattle.std.specs.declared.result.Result.the-variants.{Ok, Err};
+use rules::condition::Condition;
+use rules::refusal::SettingRefusal;
+
+// Always P: every word has P.
+#[derive(Clone, Copy)]
+pub struct Always {
+    condition: Condition,
+    kept: bool,
+}
+
+impl Always {
+    pub fn new() -> Always
+        ensures { λ r. ⌜ ghosts .meaning r ≡ always 0 ⌝ ∗ ⌜ ghosts .rest r ≡ always 0 ⌝ }
+    {
+        Always {
+            condition: Condition::first(),
+            kept: true,
+        }
+    }
+
+    // Takes P by its number, and starts.
+    pub fn set_condition(&mut self, condition: u8) -> Result<(), SettingRefusal>
+        ensures { λ r. ⌜ elim r [ Ok _ ↦ (condition < 16) × (ghosts .meaning (now (self .exit)) ≡ always condition) × (ghosts .rest (now (self .exit)) ≡ always condition) | Err e ↦ (condition < 16 → ⊥) × (e ≡ Range) × (now (self .exit) ≡ now (self .entry)) ] ⌝ }
+    {
+        self.condition = Condition::new(condition)?;
+        self.kept = true;
+        Ok(())
+    }
+}
