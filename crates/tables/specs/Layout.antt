@@ -14,6 +14,10 @@ abbrev pub most : Kind → ℕ
 most Pattern = 250
 most Scope = 8
 
+abbrev pub isPattern : Kind → Bool
+isPattern Pattern = true
+isPattern Scope = false
+
 -- the state that an entry leads to: a scope's entry is the state and 64 times the mark
 abbrev pub target : Kind → ℕ → ℕ
 target Pattern e = e

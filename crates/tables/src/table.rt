@@ -7,6 +7,7 @@ ghost use Rattle.std.specs.Options.{isSome};
 ghost use Rattle.std.specs.Results.{errPart, Cases};
 ghost use Rattle.tables.specs.Layout.{target, statesOf, widthOf, sizeOf, flagOf, entryOf, flagAt, entryAt, builtIn};
 ghost use Rattle.tables.specs.Checked.{checked};
+ghost use Rattle.tables.specs.Runs.{letterOf};
 use crate::check::check;
 use crate::fault::TableFault;
 use crate::kind::Kind;
@@ -80,6 +81,14 @@ impl<'a> Table<'a> {
         self.bytes[1 + self.states]
     }
 
+    // The length of a row, 2 to the width.
+    pub fn size(&self) -> usize
+        ensures value { λ r. ⌜ r ≡ sizeOf (now (now (self .entry) .bytes)) ⌝ }
+        ensures narrow { λ r. ⌜ r ≤ 64 ⌝ }
+    {
+        self.size
+    }
+
     // The flag of a state, if there is such a state.
     pub fn flag(&self, state: usize) -> Option<bool>
         ensures { λ r. ⌜ r ≡ flagAt (now (now (self .entry) .bytes)) state ⌝ }
@@ -100,6 +109,14 @@ impl<'a> Table<'a> {
         } else {
             None
         }
+    }
+
+    // The letter of a word: its remainder by the length of a row, which is a power of two.
+    pub fn letter(&self, word: u16) -> usize
+        ensures value { λ r. ⌜ r ≡ letterOf (now (now (self .entry) .bytes)) word ⌝ }
+        ensures below { λ r. ⌜ r < sizeOf (now (now (self .entry) .bytes)) ⌝ }
+    {
+        word as usize & (self.size - 1)
     }
 
     pub(crate) fn flag_of(&self, state: usize) -> bool

@@ -1,0 +1,3 @@
+// A scope over a pattern is a pattern again.
+pub mod judging;
+pub mod over;

@@ -1,0 +1,4 @@
+pub mod Faults
+pub mod Accepted
+pub mod After
+pub mod Runs
