@@ -1,0 +1,26 @@
+// A sheet breaks and the dryer is restarted mid-break: the record of it is judged in several ways.
+mod nested;
+mod rule;
+mod tabled;
+mod telling;
+mod trouble;
+mod watched;
+mod worked;
+
+use crate::trouble::Trouble;
+use crate::trouble::TroubleDisplay;
+
+fn tell(rt: &LibcRuntime) -> Result<(), Trouble> {
+    watched::tell(rt)?;
+    nested::tell(rt)?;
+    tabled::tell(rt)?;
+    worked::tell(rt)
+}
+
+fn main(rt: LibcRuntime) -> Result<(), Trouble> {
+    let told = tell(&rt);
+    if let Err(trouble) = &told {
+        let _ = eprintln!(rt, "{trouble}");
+    }
+    told
+}

@@ -1,0 +1,3 @@
+pub mod Gauges
+pub mod Batched
+pub mod Paired
