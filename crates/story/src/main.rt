@@ -9,6 +9,9 @@ mod worked;
 
 use crate::trouble::Trouble;
 use crate::trouble::TroubleDisplay;
+use chains::laws::chains_stand;
+use examples::examples_stand;
+use patterns::laws::counts_stand;
 
 fn tell(rt: &LibcRuntime) -> Result<(), Trouble> {
     watched::tell(rt)?;
@@ -18,6 +21,10 @@ fn tell(rt: &LibcRuntime) -> Result<(), Trouble> {
 }
 
 fn main(rt: LibcRuntime) -> Result<(), Trouble> {
+    // What the patterns mean, and the worked examples, are proved with these calls; they have nothing to do.
+    let _ = counts_stand();
+    let _ = chains_stand();
+    let _ = examples_stand();
     let told = tell(&rt);
     if let Err(trouble) = &told {
         let _ = eprintln!(rt, "{trouble}");
