@@ -103,7 +103,7 @@ front-decides q c l f h =
     rw (up-to-take c l f h) ((λ e. wide q 0 (suc f) l (rw n at (occurs-to q (take (suc f) l) e))), (λ x. occurs-from q (take (suc f) l) (rw n (narrow q 0 (suc f) l x))))
 
 module _ (p : ℕ) (a : List ℕ) (s : ℕ) (b l : List ℕ) where
-  -- the first chain occurs with its final place no later than f
+  -- the first chain is complete by place f
   abbrev By : ℕ → Type 0
   By f = (i : ℕ) × (e : ℕ) × Span (p ∷ a) l i e × (e ≤ f)
 

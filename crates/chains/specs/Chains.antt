@@ -29,8 +29,8 @@ abbrev pub up-to : ℕ → List ℕ → List ℕ
 up-to c [] = []
 up-to c (w ∷ l) = w ∷ cond (has c w) [] (up-to c l)
 
--- if the second chain occurs, then the first occurs with its final place no later than the first place that has
--- the first condition of the second
+-- where the second chain occurs, the first is complete by the first place that has the second's first condition,
+-- that place included
 abbrev pub precedes : List ℕ → List ℕ → List ℕ → Bool
 precedes first second l = not (occurs second l) || occurs first (up-to (getD second 0 0) l)
 

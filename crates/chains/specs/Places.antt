@@ -24,12 +24,11 @@ Occurs chain l = (i : ℕ) × (e : ℕ) × Span chain l i e
 abbrev pub Earliest : (ℕ → Type 0) → ℕ → Type 0
 Earliest so e = so e × ((k : ℕ) → so k → e ≤ k)
 
--- if the second chain occurs, then there is a first place f with the second's first condition, and the first
--- chain occurs with its final place no later than f
+-- where the second chain occurs, its first condition has an earliest place f, and the first chain is complete by f
 abbrev pub Precedes : List ℕ → List ℕ → List ℕ → Type 0
 Precedes first second l = Occurs second l → (f : ℕ) × Earliest (At (getD second 0 0) l) f × ((i : ℕ) × (e : ℕ) × Span first l i e × (e ≤ f))
 
--- for each place i from which the stimulus can be completed there is an earliest place e completing it from
--- there, and the response occurs with its first place at or after e
+-- a stimulus that can be run through from place i is complete at an earliest place e, and the response can be run
+-- through from e on
 abbrev pub Responds : List ℕ → List ℕ → List ℕ → Type 0
 Responds stimulus response l = (i : ℕ) → ((d : ℕ) × Span stimulus l i d) → (e : ℕ) × Earliest (Span stimulus l i) e × ((j : ℕ) × (d : ℕ) × Span response l j d × (e ≤ j))

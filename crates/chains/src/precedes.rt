@@ -11,13 +11,13 @@ ghost use Rattle.chains.specs.contracts.precedes.reading.PrecedesPattern.the-i
 use crate::chain::Chain;
 use rules::refusal::SettingRefusal;
 
-// (P1..Pn) precedes (S1..Sm): if the second chain occurs, then the first occurs with its final place no later
-// than the first place that has S1.
+// One chain precedes another: in a list where the second occurs, the first is complete by the first place that
+// has the second's first condition, that place included.
 #[derive(Clone, Copy)]
 pub struct Precedes {
     first: Chain,
     second: Chain,
-    // how many conditions of the first chain are met, at places no later than the first with S1
+    // how many conditions of the first chain are met, at places up to the first that begins the second
     met: u8,
     // how many conditions of the second chain are met
     followed: u8,

@@ -12,8 +12,8 @@ use crate::chain::Chain;
 use crate::openings::Openings;
 use rules::refusal::SettingRefusal;
 
-// (S1..Sm) responds to (P1..Pn): for each place with P1 from which the stimulus P1..Pn can be completed, the
-// response S1..Sm occurs with its first place at or after the earliest place completing it from there.
+// One chain responds to another: wherever the stimulus can be run through, the response can be run through too,
+// from the earliest place on at which the stimulus is then complete.
 #[derive(Clone, Copy)]
 pub struct Responds {
     stimulus: Chain,

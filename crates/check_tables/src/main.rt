@@ -1,4 +1,4 @@
-// Reads a pattern table and a scope table, each after its length, and says what they are found to be.
+// Reads a pattern table and a scope table, with their lengths, and says what they are found to be.
 use framing::MOST_INPUT;
 use inspect::report::report;
 use std::io;

@@ -102,8 +102,8 @@ fn put_outcome(outcome: Result<bool, JudgeFault>, line: &mut [u8]) -> usize
     }
 }
 
-// Judges an input and writes the outcome as a line: `yes`, `no` or `refused N` with the innermost number.
-// Gives the line's length.
+// Judges an input and writes the outcome as text, `yes`, `no` or `refused` and the fault's number, ended by a
+// line feed. Gives the text's length.
 pub fn judge_line(input: &[u8], scratch: &mut [u8], line: &mut [u8]) -> Result<usize, LineFault>
     ensures value { λ r. ⌜ r ≡ cond (ltb (length (now (line .entry))) 12) (Err Room) (Ok (length (lineOf (inputJudged (now (input .entry)) (length (now (scratch .entry))))))) ⌝ }
     ensures short { λ r. ⌜ made r (λ n. n ≤ 12) ⌝ }

@@ -46,16 +46,16 @@ each i zero t = true
 each zero (suc n) t = t zero && each zero n (λ k. t (suc k))
 each (suc i) (suc n) t = each i n (λ k. t (suc k))
 
--- place i is place 0, or follows an out or a last
+-- nothing is open at place i: it is the first place, or the mark before it is out or last
 abbrev pub at-border : List Mark → ℕ → Bool
 at-border ms zero = true
 at-border ms (suc i) = at is-out ms i || at is-last ms i
 
--- place i is anew, or it is in or last and is place 0 or follows an out or a last
+-- a block can begin at place i: by an anew, or by an in or a last where nothing is open
 abbrev pub begins : List Mark → ℕ → Bool
 begins ms i = at is-anew ms i || ((at is-in ms i || at is-last ms i) && at-border ms i)
 
--- no place from i to j is out, none before j is last, none after i is anew
+-- from i to j there is no out; no last but at j; no anew but at i
 abbrev pub unbroken : List Mark → ℕ → ℕ → Bool
 unbroken ms i j =
     each i (suc j) (λ k. not (at is-out ms k))
@@ -65,7 +65,7 @@ unbroken ms i j =
 abbrev pub is-block : List Mark → ℕ → ℕ → Bool
 is-block ms i j = begins ms i && unbroken ms i j
 
--- place j is last, or place j + 1 is out
+-- a block that ends at place j is closed, by its own last or by an out after it
 abbrev pub is-closed : List Mark → ℕ → Bool
 is-closed ms j = at is-last ms j || at is-out ms (suc j)
 

@@ -13,7 +13,7 @@ use Rattle.layer.specs.Blocks.{part, marks-of}
 abbrev pub Place : List Mark → ℕ → Mark → Type 0
 Place ms k m = (k < length ms) × (getD ms k Out ≡ m)
 
--- place i is place 0, or follows an out or a last
+-- nothing is open at place i: it is the first place, or the mark before it is out or last
 abbrev pub Border : List Mark → ℕ → Type 0
 Border ms zero = Unit {0}
 Border ms (suc h) = Place ms h Out ⊎ Place ms h Last
@@ -32,7 +32,7 @@ Closed ms j = Place ms j Last ⊎ Place ms (suc j) Out
 abbrev pub Unclosed : List Mark → ℕ → Type 0
 Unclosed ms j = (suc j ≡ length ms) × (Place ms j Last → ⊥)
 
--- the closed blocks, and the unclosed one where the scope says yes
+-- every closed block is judged, and an unclosed one if the scope's answer is yes
 abbrev pub Judged : List Mark → Bool → ℕ → ℕ → Type 0
 Judged ms says i j = Block ms i j × (Closed ms j ⊎ (Unclosed ms j × (says ≡ true)))
 

@@ -1,3 +1,3 @@
-// A scope over a pattern is a pattern again.
+// Scopes over patterns, which are patterns again.
 pub mod judging;
 pub mod over;

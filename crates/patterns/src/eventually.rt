@@ -11,7 +11,8 @@ use crate::form::Form;
 use crate::tally::Tally;
 use rules::refusal::SettingRefusal;
 
-// Eventually P, so many times: counts the places with P that are place 0 or follow a word without P.
+// Eventually P, so many times: counts how often P comes up, that is, the places with P whose word before, if any,
+// has it not.
 #[derive(Clone, Copy)]
 pub struct Eventually {
     tally: Tally,

@@ -23,7 +23,7 @@ pub trait Pattern {
         ensures kept { λ _. ⌜ meaning (now (self .exit)) ≡ meaning (now (self .entry)) ⌝ }
         ensures step { λ _. ⌜ ((l : List ℕ) → rest (now (self .exit)) l ≡ rest (now (self .entry)) (word ∷ l)) ⌝ };
 
-    // Whether the list read since the start is accepted.
+    // Whether what has been read since the start is accepted.
     fn verdict(&self) -> bool
         ensures { λ r. ⌜ r ≡ rest (now (self .entry)) [] ⌝ };
 }

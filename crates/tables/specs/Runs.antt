@@ -21,7 +21,7 @@ abbrev pub stateAfter : Kind → List ℕ → ℕ → List ℕ → ℕ
 stateAfter kind t s [] = s
 stateAfter kind t s (w ∷ l) = stateAfter kind t (stateNext kind t s w) l
 
--- a scope's entry is the next state and 64 times the mark: 0 out, 1 in, 2 last, 3 anew
+-- a scope's entry has the mark's number above its six low bits
 abbrev pub markOf : ℕ → Mark
 markOf e = cond (eqb (e / 64) 0) Out (cond (eqb (e / 64) 1) In (cond (eqb (e / 64) 2) Last Anew))
 

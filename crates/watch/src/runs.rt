@@ -74,8 +74,8 @@ fn answer_all<E: Encoder, R: Pattern>(
 }
 
 // The run law: the answers of a newly made watch to any list of calls are those that the list of accepted
-// samples determines, and a verdict is yes exactly when the pattern accepts every judged stretch of the
-// words of that list.
+// samples determines; and a verdict is yes if and only if each judged stretch of that list's words is
+// accepted by the pattern.
 pub fn run<E: Encoder + Drop, S: Scope + Drop, P: Pattern + Drop>(
     heap: Global,
     encoder: E,

@@ -5,7 +5,7 @@ ghost use lib.Signed.{leZ};
 ghost use Rattle.std.specs.declared.option.Option.the-variants.{Some, None};
 ghost use Rattle.encoders.specs.Event.{readable};
 
-// A deviation from the set moisture, in hundredths of a percentage point: at most a hundred points either way.
+// How far the moisture is off its set value, in hundredths of a point: at most a hundred points either way.
 #[derive(Clone, Copy)]
 pub struct Reading {
     hundredths: i16,
