@@ -4,7 +4,7 @@ use inspect::report::TableLineDisplay;
 use inspect::report::report;
 use std::alloc::AllocError;
 use std::io;
-use tables::kind::Kind;
+use table_format::kind::Kind;
 
 struct Case {
     what: &'static str,

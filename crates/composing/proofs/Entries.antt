@@ -7,11 +7,11 @@ use native.Mathlib.Omega.{arith}
 use lib.Dec.{ltb}
 use Rattle.std.specs.Options.{isSome, valueOr}
 use Rattle.std.proofs.shelf.Tests.{lt-ltb, false≢true}
-use Rattle.tables.specs.declared.kind.Kind.{Kind}
-use Rattle.tables.specs.declared.kind.Kind.the-variants.{Pattern, Scope}
-use Rattle.tables.specs.Checked.{checked}
-use Rattle.tables.specs.Layout.{isPattern, target, statesOf, sizeOf, entryOf, entryAt}
-use Rattle.tables.proofs.Laws.{lawful}
+use Rattle.table_format.specs.declared.kind.Kind.{Kind}
+use Rattle.table_format.specs.declared.kind.Kind.the-variants.{Pattern, Scope}
+use Rattle.table_format.specs.Checked.{checked}
+use Rattle.table_format.specs.Layout.{isPattern, target, statesOf, sizeOf, entryOf, entryAt}
+use Rattle.table_format.proofs.Laws.{lawful}
 
 pub read-entry : (t : List ℕ) (q a e : ℕ) → q < statesOf t → a < sizeOf t → e ≡ valueOr (entryAt t q a) 0 → e ≡ entryOf t q a
 read-entry t q a e hq ha is = let x = lt-ltb q (statesOf t) hq in let y = lt-ltb a (sizeOf t) ha in is ∙ rw (x, y)

@@ -7,7 +7,7 @@ use lib.Dec.{eqb, ltb}
 use Rattle.std.specs.declared.result.Result.{Result}
 use Rattle.std.specs.declared.result.Result.the-variants.{Ok}
 use Rattle.std.proofs.shelf.Tests.{eq-eqb, le-ltb}
-use Rattle.tables.specs.Layout.{statesOf, widthOf, sizeOf}
+use Rattle.table_format.specs.Layout.{statesOf, widthOf, sizeOf}
 use Rattle.composing.specs.declared.fault.ComposeFault.{ComposeFault}
 use Rattle.composing.specs.Composed.{totalOf, composedLength}
 use Rattle.composing.specs.Composing.{fitting}

@@ -7,8 +7,8 @@ use Rattle.std.specs.declared.option.Option.{Option}
 use Rattle.std.specs.declared.option.Option.the-variants.{Some, None}
 use Rattle.rules.specs.declared.mark.Mark.{Mark}
 use Rattle.rules.specs.declared.mark.Mark.the-variants.{Out, In, Last, Anew}
-use Rattle.tables.specs.declared.kind.Kind.the-variants.{Pattern, Scope}
-use Rattle.tables.specs.Layout.{target, sizeOf, flagOf, entryOf}
+use Rattle.table_format.specs.declared.kind.Kind.the-variants.{Pattern, Scope}
+use Rattle.table_format.specs.Layout.{target, sizeOf, flagOf, entryOf}
 use Rattle.tables.specs.Runs.{markOf, letterOf, stateNext, acceptsFrom, marksFrom, saysFrom, accepts}
 use Rattle.layer.specs.Stretches.{Open, shut, open-with, closed, opened, judged}
 use Rattle.composing.specs.declared.place.Place.{Place}

@@ -17,14 +17,14 @@ use Rattle.std.specs.declared.result.Result.{Result}
 use Rattle.std.specs.declared.result.Result.the-variants.{Ok, Err}
 use Rattle.std.proofs.shelf.Tests.{false≢true}
 use Rattle.std.proofs.shelf.Ways.{tells, decides-and, decides-like, decides-eqb, decides-not, decides-ltb, decides-at}
-use Rattle.tables.specs.declared.fault.TableFault.{TableFault}
-use Rattle.tables.specs.declared.kind.Kind.{Kind}
-use Rattle.tables.specs.declared.kind.Kind.the-variants.{Pattern as PatternKind, Scope as ScopeKind}
-use Rattle.tables.specs.Checked.{checked}
-use Rattle.tables.specs.Lawful.{Lawful}
-use Rattle.tables.specs.Layout.{widthOf, statesOf}
+use Rattle.table_format.specs.declared.fault.TableFault.{TableFault}
+use Rattle.table_format.specs.declared.kind.Kind.{Kind}
+use Rattle.table_format.specs.declared.kind.Kind.the-variants.{Pattern as PatternKind, Scope as ScopeKind}
+use Rattle.table_format.specs.Checked.{checked}
+use Rattle.table_format.specs.Lawful.{Lawful}
+use Rattle.table_format.specs.Layout.{widthOf, statesOf}
 use Rattle.tables.specs.Runs.{accepts, marks, says}
-use Rattle.tables.proofs.Laws.{lawful, checked-lawful}
+use Rattle.table_format.proofs.Laws.{lawful, checked-lawful}
 use Rattle.layer.specs.Judged.{Accepts-each}
 use Rattle.layer.proofs.Laws.{judged-is}
 use Rattle.layer.proofs.Places.{decided}

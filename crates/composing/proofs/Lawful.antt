@@ -15,11 +15,11 @@ use Rattle.std.proofs.shelf.Counted.{length-map-counting, getD-map-counting}
 use Rattle.std.proofs.shelf.Bits.{div-below, mod-below, div-mul-add, mod-mul-add, pow-pos}
 use Rattle.rules.specs.declared.mark.Mark.{Mark}
 use Rattle.rules.specs.declared.mark.Mark.the-variants.{Out, In, Last, Anew}
-use Rattle.tables.specs.declared.kind.Kind.the-variants.{Pattern, Scope}
-use Rattle.tables.specs.Lawful.{Lawful}
-use Rattle.tables.specs.Layout.{target, statesOf, widthOf, sizeOf, flagOf, entryOf, rowStart}
+use Rattle.table_format.specs.declared.kind.Kind.the-variants.{Pattern, Scope}
+use Rattle.table_format.specs.Lawful.{Lawful}
+use Rattle.table_format.specs.Layout.{target, statesOf, widthOf, sizeOf, flagOf, entryOf, rowStart}
 use Rattle.tables.specs.Runs.{markOf, acceptsFrom}
-use Rattle.tables.proofs.Laws.{row-within}
+use Rattle.table_format.proofs.Laws.{row-within}
 use Rattle.composing.specs.declared.place.Place.{Place}
 use Rattle.composing.specs.declared.place.Place.the-variants.{Failed, Outside, Inside}
 use Rattle.composing.specs.Composed.{placeNumber, placeAt, Within, bitOf, placeFlag, lands, leads, blockOf, totalOf, flagByte, entryByte, rowOf, rowsOf, composed}

@@ -7,8 +7,8 @@ use Rattle.std.specs.Iters.{counting}
 use Rattle.std.specs.Joined.{joined}
 use Rattle.rules.specs.declared.mark.Mark.{Mark}
 use Rattle.rules.specs.declared.mark.Mark.the-variants.{Out, In, Last, Anew}
-use Rattle.tables.specs.declared.kind.Kind.the-variants.{Scope}
-use Rattle.tables.specs.Layout.{target, statesOf, widthOf, sizeOf, flagOf, entryOf}
+use Rattle.table_format.specs.declared.kind.Kind.the-variants.{Scope}
+use Rattle.table_format.specs.Layout.{target, statesOf, widthOf, sizeOf, flagOf, entryOf}
 use Rattle.tables.specs.Runs.{markOf}
 use Rattle.composing.specs.declared.place.Place.{Place}
 use Rattle.composing.specs.declared.place.Place.the-variants.{Failed, Outside, Inside}

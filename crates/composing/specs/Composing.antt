@@ -10,12 +10,12 @@ use Rattle.std.specs.declared.option.Option.{Option}
 use Rattle.std.specs.declared.option.Option.the-variants.{Some, None}
 use Rattle.std.specs.declared.result.Result.{Result}
 use Rattle.std.specs.declared.result.Result.the-variants.{Ok, Err}
-use Rattle.tables.specs.declared.fault.TableFault.{TableFault}
-use Rattle.tables.specs.declared.kind.Kind.the-variants.{Pattern as PatternKind, Scope as ScopeKind}
-use Rattle.tables.specs.Checked.{checked}
-use Rattle.tables.specs.Faults.{faultNumber}
-use Rattle.tables.specs.Lawful.{Lawful}
-use Rattle.tables.specs.Layout.{widthOf}
+use Rattle.table_format.specs.declared.fault.TableFault.{TableFault}
+use Rattle.table_format.specs.declared.kind.Kind.the-variants.{Pattern as PatternKind, Scope as ScopeKind}
+use Rattle.table_format.specs.Checked.{checked}
+use Rattle.table_format.specs.Faults.{faultNumber}
+use Rattle.table_format.specs.Lawful.{Lawful}
+use Rattle.table_format.specs.Layout.{widthOf}
 use Rattle.tables.specs.Runs.{accepts, marks, says}
 use Rattle.layer.specs.Judged.{Accepts-each}
 use Rattle.composing.specs.declared.fault.ComposeFault.{ComposeFault}

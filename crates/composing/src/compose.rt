@@ -5,12 +5,12 @@ ghost use lib.ListN.{length};
 ghost use Rattle.std.specs.Orderings.{Decides};
 ghost use Rattle.std.specs.Results.{isOk};
 ghost use Rattle.std.specs.Vec.{made};
-ghost use Rattle.tables.specs.Layout.{isPattern};
+ghost use Rattle.table_format.specs.Layout.{isPattern};
 ghost use Rattle.composing.specs.Composed.{composed};
 ghost use Rattle.composing.specs.Composing.{fitting, composing, afterwards, Composable, Composes};
 use crate::composer::Composer;
 use crate::fault::ComposeFault;
-use tables::kind::Kind;
+use table_format::kind::Kind;
 use tables::table::Table;
 
 const MOST_STATES: usize = 250;

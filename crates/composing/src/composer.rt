@@ -4,7 +4,7 @@ ghost use mathlib.Core.Path.{_≡_};
 ghost use mathlib.Core.Bool.{true, false};
 ghost use Prim.Native.Nat.{_+_, _*_, _%_, _<_, _≤_};
 ghost use denote.Ref.{now};
-ghost use Rattle.tables.specs.Layout.{isPattern, statesOf, widthOf, sizeOf, flagOf, entryOf};
+ghost use Rattle.table_format.specs.Layout.{isPattern, statesOf, widthOf, sizeOf, flagOf, entryOf};
 ghost use Rattle.composing.specs.Composed.{placeNumber, placeAt, bitOf, placeFlag, lands, leads, entryFrom, totalOf, Within};
 use crate::place::Place;
 use rules::mark::Mark;

@@ -1,8 +1,8 @@
 ghost use mathlib.Core.Path.{_≡_};
 ghost use Rattle.composing.specs.Composing.{composeNumber};
-use tables::fault::TableFault;
-use tables::fault::TableFaultDebug;
-use tables::fault::TableFaultPartialEq;
+use table_format::fault::TableFault;
+use table_format::fault::TableFaultDebug;
+use table_format::fault::TableFaultPartialEq;
 
 // Why two tables are not composed.
 #[derive(Clone, Copy, PartialEq, Eq, Debug)]

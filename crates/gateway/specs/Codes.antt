@@ -7,8 +7,8 @@ use Rattle.std.specs.declared.result.Result.{Result}
 use Rattle.std.specs.declared.result.Result.the-variants.{Ok, Err}
 use Rattle.composing.specs.declared.fault.ComposeFault.{ComposeFault}
 use Rattle.composing.specs.Composing.{composeNumber}
-use Rattle.tables.specs.declared.fault.TableFault.{TableFault}
-use Rattle.tables.specs.Faults.{faultNumber}
+use Rattle.table_format.specs.declared.fault.TableFault.{TableFault}
+use Rattle.table_format.specs.Faults.{faultNumber}
 
 abbrev pub checkCode : Option TableFault → ℤ
 checkCode None = pos 0

@@ -5,11 +5,11 @@ ghost use lib.ListN.{length};
 ghost use Rattle.gateway.specs.Codes.{checkCode, lengthCode};
 ghost use Rattle.composing.specs.Composed.{composed};
 ghost use Rattle.composing.specs.Composing.{composing, afterwards};
-ghost use Rattle.tables.specs.Checked.{checked};
-ghost use Rattle.tables.specs.declared.kind.Kind.the-variants.{Pattern, Scope};
+ghost use Rattle.table_format.specs.Checked.{checked};
+ghost use Rattle.table_format.specs.declared.kind.Kind.the-variants.{Pattern, Scope};
 use composing::compose::compose;
-use tables::check::check;
-use tables::kind::Kind;
+use table_format::check::check;
+use table_format::kind::Kind;
 
 // Minus a refusal's number.
 fn refusal_code(number: u8) -> i32

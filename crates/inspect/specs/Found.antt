@@ -3,10 +3,10 @@ use mathlib.Core.List.{List}
 use Prim.Native.Nat.{ℕ}
 use Rattle.std.specs.declared.option.Option.{Option}
 use Rattle.std.specs.declared.option.Option.the-variants.{Some, None}
-use Rattle.tables.specs.declared.fault.TableFault.{TableFault}
-use Rattle.tables.specs.declared.kind.Kind.{Kind}
-use Rattle.tables.specs.Checked.{checked}
-use Rattle.tables.specs.Layout.{statesOf, widthOf}
+use Rattle.table_format.specs.declared.fault.TableFault.{TableFault}
+use Rattle.table_format.specs.declared.kind.Kind.{Kind}
+use Rattle.table_format.specs.Checked.{checked}
+use Rattle.table_format.specs.Layout.{statesOf, widthOf}
 use Rattle.inspect.specs.declared.finding.Finding.{Finding}
 use Rattle.inspect.specs.declared.finding.Finding.the-variants.{Good, Refused}
 

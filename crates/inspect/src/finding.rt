@@ -1,9 +1,9 @@
 ghost use mathlib.Core.Path.{_≡_};
 ghost use Rattle.inspect.specs.Found.{found};
-use tables::fault::TableFault;
-use tables::fault::TableFaultDebug;
-use tables::fault::TableFaultPartialEq;
-use tables::kind::Kind;
+use table_format::fault::TableFault;
+use table_format::fault::TableFaultDebug;
+use table_format::fault::TableFaultPartialEq;
+use table_format::kind::Kind;
 use tables::table::Table;
 
 // What checking found of one table.

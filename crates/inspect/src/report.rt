@@ -7,8 +7,8 @@ use framing::tables_of;
 use std::alloc::AllocError;
 use std::alloc::Global;
 use std::fmt;
-use tables::fault::TableFault;
-use tables::kind::Kind;
+use table_format::fault::TableFault;
+use table_format::kind::Kind;
 
 // One table's line.
 #[derive(Clone, Copy)]

@@ -1,6 +1,6 @@
 use framing::InputFault;
-use tables::fault::TableFault;
-use tables::kind::Kind;
+use table_format::fault::TableFault;
+use table_format::kind::Kind;
 
 pub fn kind_name(kind: Kind) -> &'static str {
     match kind {

@@ -14,14 +14,14 @@ use Rattle.std.specs.declared.result.Result.{Result}
 use Rattle.std.specs.declared.result.Result.the-variants.{Ok, Err}
 use Rattle.watch.specs.declared.fault.PlayFault.{PlayFault}
 use Rattle.watch.specs.Accepted.{Codes, words, playing}
-use Rattle.tables.specs.Layout.{widthOf}
+use Rattle.table_format.specs.Layout.{widthOf}
 use Rattle.encoders.specs.Letter.{letterCodes}
 use Rattle.framing.specs.declared.InputFault.{InputFault}
 use Rattle.framing.specs.Framed.{framed}
 use Rattle.composing.specs.declared.fault.ComposeFault.{ComposeFault}
 use Rattle.composing.specs.Composed.{composed}
 use Rattle.composing.specs.Composing.{composing, afterwards}
-use Rattle.tables.specs.declared.fault.TableFault.{TableFault}
+use Rattle.table_format.specs.declared.fault.TableFault.{TableFault}
 use Rattle.judging.specs.Outcomes.{globally, after, recordJudged, ofRecord, ofTables, ofInput, inputJudged, scratchOf}
 
 module _ (t bytes : List ℕ) (codes : Codes) (size : ℕ) (ec : codes ≡ letterCodes (widthOf t)) (es : size ≡ 1) where

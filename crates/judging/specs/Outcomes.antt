@@ -15,7 +15,7 @@ use Rattle.watch.specs.Accepted.{Samples, words, playing}
 use Rattle.watch.specs.Faults.{playNumber}
 use Rattle.rules.specs.declared.mark.Mark.the-variants.{In}
 use Rattle.layer.specs.Blocks.{accepts-over}
-use Rattle.tables.specs.Layout.{widthOf}
+use Rattle.table_format.specs.Layout.{widthOf}
 use Rattle.tables.specs.Runs.{accepts}
 use Rattle.encoders.specs.Letter.{letterCodes}
 use Rattle.judging.specs.declared.fault.JudgeFault.{JudgeFault}

@@ -1,11 +1,11 @@
 // How calls and answers read.
 use rules::encoder::Encoder;
 use rules::pattern::Pattern;
+use runs::Answer;
+use runs::Call;
 use std::io;
 use watch::fault::PlayFault;
 use watch::fault::WatchFault;
-use watch::runs::Answer;
-use watch::runs::Call;
 use watch::watch::Watch;
 
 pub fn yes_or_no(kept: bool) -> &'static str {

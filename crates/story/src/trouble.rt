@@ -3,7 +3,7 @@ use rules::refusal::SettingRefusal;
 use std::alloc::AllocError;
 use std::fmt;
 use std::io;
-use tables::fault::TableFault;
+use table_format::fault::TableFault;
 
 // What can keep the story from being told to its end.
 #[derive(Drop)]

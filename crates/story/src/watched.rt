@@ -6,7 +6,7 @@ ghost use Rattle.std.specs.Vec.{made};
 ghost use Rattle.layer.specs.Blocks.{accepts-over};
 ghost use Rattle.patterns.specs.Places.{never as neverBy};
 ghost use Rattle.scopes.specs.Marks.{between-mark};
-ghost use Rattle.watch.specs.Runs.{answers as answersBy};
+ghost use Rattle.runs.specs.Runs.{answers as answersBy};
 ghost use Rattle.story.specs.Contacted.{story-codes};
 use crate::rule;
 use crate::telling::tell_answer;
@@ -16,11 +16,11 @@ use crate::trouble::TroubleFromOutput;
 use crate::trouble::TroubleFromSetting;
 use encoders::contacts::coding::ContactsEncoder;
 use patterns::never::reading::NeverPattern;
+use runs::Answer;
+use runs::Call;
+use runs::run;
 use scopes::between::marking::BetweenScope;
 use std::alloc::Global;
-use watch::runs::Answer;
-use watch::runs::Call;
-use watch::runs::run;
 
 // The break, sample by sample: the dryer is driven before the tail is threaded. Then a record in which the
 // dryer waits, one that is cut short, and one in which a contact that there is not is closed.

@@ -6,7 +6,7 @@ ghost use Rattle.std.specs.Vec.{made};
 ghost use Rattle.layer.specs.Blocks.{accepts-over};
 ghost use Rattle.layer.specs.Judged.{Accepts-each};
 ghost use Rattle.watch.specs.Accepted.{Samples, words as wordsOf};
-ghost use Rattle.watch.specs.Runs.{answers};
+ghost use Rattle.runs.specs.Runs.{answers};
 ghost use Rattle.stranger.specs.Gauges.{gauge-codes};
 ghost use Rattle.stranger.specs.Batched.{batch-mark, batch-says};
 ghost use Rattle.stranger.specs.Paired.{paired};
@@ -19,11 +19,11 @@ use crate::pairs::reading::PairsPattern;
 use layer::judging::judge_stretches;
 use layer::over::Over;
 use layer::over::reading::OverPattern;
+use runs::Answer;
+use runs::Call;
+use runs::run;
 use std::alloc::AllocError;
 use std::alloc::Global;
-use watch::runs::Answer;
-use watch::runs::Call;
-use watch::runs::run;
 
 // The run law at the gauge, the batches and the pairs: the answers to any list of calls, and when a verdict is yes.
 pub fn run_gauge(heap: Global, calls: &[Call<'_>]) -> Result<Vec<Answer>, AllocError>

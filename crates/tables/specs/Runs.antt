@@ -5,9 +5,9 @@ use Prim.Native.Nat.{ℕ, _/_, _%_}
 use lib.Dec.{eqb}
 use Rattle.rules.specs.declared.mark.Mark.{Mark}
 use Rattle.rules.specs.declared.mark.Mark.the-variants.{Out, In, Last, Anew}
-use Rattle.tables.specs.declared.kind.Kind.{Kind}
-use Rattle.tables.specs.declared.kind.Kind.the-variants.{Pattern, Scope}
-use Rattle.tables.specs.Layout.{target, sizeOf, flagOf, entryOf}
+use Rattle.table_format.specs.declared.kind.Kind.{Kind}
+use Rattle.table_format.specs.declared.kind.Kind.the-variants.{Pattern, Scope}
+use Rattle.table_format.specs.Layout.{target, sizeOf, flagOf, entryOf}
 
 abbrev pub letterOf : List ℕ → ℕ → ℕ
 letterOf t w = w % sizeOf t

@@ -1,7 +1,4 @@
-// Pattern tables and scope tables: what a lawful one is, checking one, and reading one word by word.
-pub mod check;
-pub mod fault;
-pub mod kind;
+// Lawful tables, and the patterns and scopes that they are.
 pub mod mark;
 pub mod pattern;
 pub mod scope;

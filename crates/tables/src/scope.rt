@@ -5,7 +5,7 @@ ghost use mathlib.Core.Path.{_≡_};
 ghost use mathlib.Core.Bool.{false};
 ghost use Prim.Native.Nat.{_<_};
 ghost use denote.Ref.{now};
-ghost use Rattle.tables.specs.Layout.{isPattern, statesOf};
+ghost use Rattle.table_format.specs.Layout.{isPattern, statesOf};
 use crate::table::Table;
 
 // A scope that a scope table gives: it stands in one of the table's states.

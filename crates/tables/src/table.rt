@@ -5,12 +5,12 @@ ghost use lib.ListN.{length, getD};
 ghost use denote.Ref.{now};
 ghost use Rattle.std.specs.Options.{isSome};
 ghost use Rattle.std.specs.Results.{errPart, Cases};
-ghost use Rattle.tables.specs.Layout.{target, statesOf, widthOf, sizeOf, flagOf, entryOf, flagAt, entryAt, builtIn};
-ghost use Rattle.tables.specs.Checked.{checked};
+ghost use Rattle.table_format.specs.Layout.{target, statesOf, widthOf, sizeOf, flagOf, entryOf, flagAt, entryAt, builtIn};
+ghost use Rattle.table_format.specs.Checked.{checked};
 ghost use Rattle.tables.specs.Runs.{letterOf};
-use crate::check::check;
-use crate::fault::TableFault;
-use crate::kind::Kind;
+use table_format::check::check;
+use table_format::fault::TableFault;
+use table_format::kind::Kind;
 
 static ACCEPT_ALL: [u8; 4] = [1, 1, 0, 0];
 

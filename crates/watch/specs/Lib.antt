@@ -1,4 +1,3 @@
 pub mod Faults
 pub mod Accepted
 pub mod After
-pub mod Runs

@@ -1,5 +1,4 @@
 // A watch takes a record sample by sample and tells whether it keeps a rule.
 pub mod fault;
 pub mod making;
-pub mod runs;
 pub mod watch;

@@ -3,7 +3,7 @@ ghost use mathlib.Core.List.{map};
 ghost use Prim.Native.Nat.{_+_, _*_};
 ghost use lib.ListN.{length};
 ghost use Rattle.std.specs.Iters.{counting};
-ghost use Rattle.tables.specs.Layout.{statesOf, sizeOf};
+ghost use Rattle.table_format.specs.Layout.{statesOf, sizeOf};
 ghost use Rattle.composing.specs.Composed.{flagByte, entryFrom, rowsOf, composed, composedLength, Within};
 use crate::composer::Composer;
 use crate::place::Place;

@@ -1,14 +1,14 @@
 ghost use mathlib.Core.Path.{_≡_};
 ghost use Rattle.std.specs.Results.{errPart, Cases};
-ghost use Rattle.tables.specs.Checked.{checked};
-ghost use Rattle.tables.specs.Layout.{builtIn, widthOf};
+ghost use Rattle.table_format.specs.Checked.{checked};
+ghost use Rattle.table_format.specs.Layout.{builtIn, widthOf};
 ghost use Rattle.tables.specs.Runs.{accepts};
 ghost use Rattle.tables.specs.contracts.pattern.reading.TablePatternPattern.the-impl.{ghosts};
-ghost use Rattle.tables.specs.declared.kind.Kind.the-variants.{Pattern as PatternKind};
-use crate::fault::TableFault;
-use crate::kind::Kind;
+ghost use Rattle.table_format.specs.declared.kind.Kind.the-variants.{Pattern as PatternKind};
 use crate::pattern::TablePattern;
 use crate::table::Table;
+use table_format::fault::TableFault;
+use table_format::kind::Kind;
 
 impl<'a> TablePattern<'a> {
     // The pattern of the built-in table, at its start.

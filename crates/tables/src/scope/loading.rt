@@ -1,14 +1,14 @@
 ghost use mathlib.Core.Path.{_≡_};
 ghost use Rattle.std.specs.Results.{errPart, Cases};
-ghost use Rattle.tables.specs.Checked.{checked};
-ghost use Rattle.tables.specs.Layout.{builtIn};
+ghost use Rattle.table_format.specs.Checked.{checked};
+ghost use Rattle.table_format.specs.Layout.{builtIn};
 ghost use Rattle.tables.specs.Runs.{marks, says};
 ghost use Rattle.tables.specs.contracts.scope.reading.TableScopeScope.the-impl.{ghosts};
-ghost use Rattle.tables.specs.declared.kind.Kind.the-variants.{Scope as ScopeKind};
-use crate::fault::TableFault;
-use crate::kind::Kind;
+ghost use Rattle.table_format.specs.declared.kind.Kind.the-variants.{Scope as ScopeKind};
 use crate::scope::TableScope;
 use crate::table::Table;
+use table_format::fault::TableFault;
+use table_format::kind::Kind;
 
 impl<'a> TableScope<'a> {
     // The scope of the built-in table, at its start.

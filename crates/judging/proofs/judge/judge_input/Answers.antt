@@ -5,9 +5,9 @@ use Rattle.std.specs.declared.option.Option.the-variants.{None}
 use Rattle.std.specs.declared.result.Result.the-variants.{Err}
 use Rattle.std.proofs.shelf.Results.{err-from-errBy}
 use Rattle.composing.specs.Composed.{composed}
-use Rattle.tables.specs.declared.kind.Kind.the-variants.{Pattern as PatternKind}
-use Rattle.tables.specs.Checked.{checked}
-use Rattle.tables.proofs.Laws.{checked-lawful}
+use Rattle.table_format.specs.declared.kind.Kind.the-variants.{Pattern as PatternKind}
+use Rattle.table_format.specs.Checked.{checked}
+use Rattle.table_format.proofs.Laws.{checked-lawful}
 use Rattle.judging.specs.declared.fault.JudgeFault.{JudgeFault}
 use Rattle.judging.specs.Outcomes.{ofRecord}
 use Rattle.judging.proofs.Judged.{front, unchecked, whole, kept}

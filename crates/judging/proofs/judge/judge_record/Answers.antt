@@ -7,7 +7,7 @@ use Rattle.std.proofs.shelf.Results.{err-from-errBy}
 use Rattle.watch.specs.declared.fault.PlayFault.{PlayFault}
 use Rattle.watch.specs.Accepted.{words, playing}
 use Rattle.layer.specs.Blocks.{accepts-over}
-use Rattle.tables.specs.Layout.{widthOf}
+use Rattle.table_format.specs.Layout.{widthOf}
 use Rattle.encoders.specs.Letter.{letterCodes}
 use Rattle.encoders.specs.contracts.letters.coding.LettersEncoder.the-impl.{ghosts}
 use Rattle.judging.proofs.Judged.{broken, judged}

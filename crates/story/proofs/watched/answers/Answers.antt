@@ -1,7 +1,7 @@
 use mathlib.Core.Path.{_∙_}
 use mathlib.Core.List.{[]}
 use Rattle.layer.specs.Blocks.{accepts-over}
-use Rattle.watch.specs.Runs.{answers}
+use Rattle.runs.specs.Runs.{answers}
 use Rattle.story.proofs.watched.answers.Needs as need
 
 -- the run law, at what the three parts are set up as

@@ -1,7 +1,7 @@
 use mathlib.Core.Path.{_≡_, sym, ap, subst, _∙_}
 use Prim.Native.Nat.{ℕ, _%_, _<_}
 use Rattle.std.specs.Options.{valueOr}
-use Rattle.tables.specs.Layout.{statesOf, sizeOf}
+use Rattle.table_format.specs.Layout.{statesOf, sizeOf}
 use Rattle.composing.proofs.Entries.{read-entry, scope-leads}
 use Rattle.composing.proofs.composer.Composer.move_of.Needs as need
 

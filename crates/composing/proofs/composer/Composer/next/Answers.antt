@@ -1,7 +1,7 @@
 use mathlib.Core.Path.{_≡_, sym, ap, subst, _∙_}
 use Prim.Native.Nat.{ℕ, _<_}
 use Rattle.std.specs.Options.{valueOr}
-use Rattle.tables.specs.Layout.{statesOf}
+use Rattle.table_format.specs.Layout.{statesOf}
 use Rattle.composing.proofs.Entries.{read-entry, pattern-leads}
 use Rattle.composing.proofs.composer.Composer.next.Needs as need
 

@@ -2,8 +2,8 @@ use native.Mathlib.Omega.{arith}
 use borrow.Author.Needs.{needs}
 use mathlib.Core.Path.{subst}
 use Prim.Native.Nat.{ℕ, _<_}
-use Rattle.tables.specs.Layout.{statesOf}
-use Rattle.tables.proofs.Laws.{row-within}
+use Rattle.table_format.specs.Layout.{statesOf}
+use Rattle.table_format.proofs.Laws.{row-within}
 use Rattle.composing.specs.declared.place.Place.{Place}
 use Rattle.composing.specs.Composed.{Within}
 use Rattle.composing.proofs.composer.Composer.number.Needs as need

@@ -2,7 +2,7 @@ use native.Mathlib.Omega.{arith}
 use mathlib.Core.Path.{_≡_, ap, _∙_}
 use Prim.Native.Nat.{ℕ, _+_}
 use Rattle.std.proofs.shelf.Counted.{fill-by-all}
-use Rattle.tables.specs.Layout.{statesOf}
+use Rattle.table_format.specs.Layout.{statesOf}
 use Rattle.composing.specs.declared.place.Place.{Place}
 use Rattle.composing.specs.Composed.{bitOf, placeFlag, placeAt, flagByte}
 use Rattle.composing.proofs.Filled.{fill-more}

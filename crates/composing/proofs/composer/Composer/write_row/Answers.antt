@@ -1,6 +1,6 @@
 use native.Mathlib.Omega.{arith}
 use Rattle.std.proofs.shelf.Counted.{fill-by-all}
-use Rattle.tables.specs.Layout.{sizeOf}
+use Rattle.table_format.specs.Layout.{sizeOf}
 use Rattle.composing.specs.Composed.{entryFrom}
 use Rattle.composing.proofs.Filled.{fill-more}
 use Rattle.composing.proofs.composer.Composer.write_row.Needs as need

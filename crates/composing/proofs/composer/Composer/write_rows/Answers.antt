@@ -7,8 +7,8 @@ use lib.ListN.{length, take}
 use Rattle.std.specs.Iters.{counting}
 use Rattle.std.proofs.shelf.Counted.{length-map-counting}
 use Rattle.std.proofs.shelf.Lists.{take-all}
-use Rattle.tables.specs.Layout.{statesOf, sizeOf}
-use Rattle.tables.proofs.Laws.{row-within}
+use Rattle.table_format.specs.Layout.{statesOf, sizeOf}
+use Rattle.table_format.proofs.Laws.{row-within}
 use Rattle.composing.specs.declared.place.Place.{Place}
 use Rattle.composing.specs.Composed.{placeAt, entryFrom, entryByte, rowOf, rowsOf}
 use Rattle.composing.proofs.Filled.{rows-more}

@@ -3,8 +3,8 @@ use native.Mathlib.Omega.{arith}
 use mathlib.Core.Path.{_≡_}
 use Prim.Native.Nat.{ℕ, _+_, _*_}
 use Rattle.std.proofs.shelf.Edits.{getD-between}
-use Rattle.tables.specs.Layout.{entryOf}
-use Rattle.tables.proofs.Laws.{row-within, lawful}
+use Rattle.table_format.specs.Layout.{entryOf}
+use Rattle.table_format.proofs.Laws.{row-within, lawful}
 use Rattle.tables.proofs.table.Table.entry_of.Needs as need
 
 pub part-entry-in-end : need.part-entry-in-end

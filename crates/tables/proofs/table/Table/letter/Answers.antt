@@ -2,7 +2,7 @@ use mathlib.Core.Path.{_≡_, sym, ap, subst, _∙_}
 use Prim.Native.Nat.{ℕ, _-_, _<_}
 use lib.Bits.{bitAnd}
 use Rattle.std.proofs.shelf.Bits.{and-mask, mod-below, pow-pos}
-use Rattle.tables.specs.Layout.{sizeOf, widthOf}
+use Rattle.table_format.specs.Layout.{sizeOf, widthOf}
 use Rattle.tables.specs.Runs.{letterOf}
 use Rattle.tables.proofs.table.Table.letter.Needs as need
 

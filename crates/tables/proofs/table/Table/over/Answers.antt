@@ -1,8 +1,8 @@
 use borrow.Author.Needs.{needs}
 use lib.Pow.{pow-mono}
 use Prim.Native.Nat.{_≤_}
-use Rattle.tables.specs.Layout.{sizeOf}
-use Rattle.tables.proofs.Laws.{passed}
+use Rattle.table_format.specs.Layout.{sizeOf}
+use Rattle.table_format.proofs.Laws.{passed}
 use Rattle.tables.proofs.table.Table.over.Needs as need
 
 pub ghost-result : need.ghost-result
