@@ -1,5 +1,7 @@
 // A sheet breaks and the dryer is restarted mid-break: the record of it is judged in several ways.
-mod named;
+
+#![tactic(auto)]
+
 mod nested;
 mod rule;
 mod tabled;
@@ -11,27 +13,26 @@ mod worked;
 use crate::trouble::Trouble;
 use chains::laws::chains_stand;
 use examples::examples_stand;
-use formulas::laws::formulas_stand;
 use patterns::laws::counts_stand;
+use std::process::ExitCode;
 
 fn tell(rt: &HostRuntime) -> Result<(), Trouble> {
     watched::tell(rt)?;
     nested::tell(rt)?;
     tabled::tell(rt)?;
-    worked::tell(rt)?;
-    named::tell(rt)
+    worked::tell(rt)
 }
 
-fn main(rt: HostRuntime) -> Result<(), Trouble> {
-    // What the patterns mean, that they agree with their formulas, and the worked examples, are proved with these
-    // calls; they have nothing to do.
+fn main(rt: HostRuntime) -> ExitCode {
+    // What the patterns mean, and the worked examples, are proved with these calls; they have nothing to do.
     let _ = counts_stand();
     let _ = chains_stand();
-    let _ = formulas_stand();
     let _ = examples_stand();
-    let told = tell(&rt);
-    if let Err(trouble) = &told {
-        let _ = eprintln!(rt; "{trouble}");
+    match tell(&rt) {
+        Ok(()) => ExitCode::SUCCESS,
+        Err(trouble) => {
+            let _ = eprintln!(rt; "{trouble}");
+            ExitCode::FAILURE
+        }
     }
-    told
 }

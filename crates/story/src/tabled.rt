@@ -1,8 +1,8 @@
+use crate::rule;
 use crate::telling::{tell_feeding, tell_record};
 use crate::trouble::Trouble;
 use composing::compose::compose;
 use encoders::letters::Letters;
-use kinds::setup;
 use scopes::globally::Globally;
 use tables::pattern::TablePattern;
 use watch::watch::Watch;
@@ -39,5 +39,5 @@ pub fn tell(rt: &HostRuntime) -> Result<(), Trouble> {
     let mut room = [0u8; LONGEST];
     let length = compose(&NEVER, &BETWEEN, &mut room)?;
     println!(rt; "  composed: {length} bytes, {} states", room[0])?;
-    tell_table(rt, &room[0..length], setup::letters(3)?)
+    tell_table(rt, &room[0..length], rule::letters(3)?)
 }

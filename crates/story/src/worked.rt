@@ -1,7 +1,6 @@
 use crate::rule;
 use crate::telling::yes_or_no;
 use crate::trouble::Trouble;
-use kinds::setup;
 use layer::judging::{judge, judge_stretches};
 use layer::over::Over;
 use patterns::form::Form;
@@ -15,8 +14,8 @@ fn tell_verdict(rt: &HostRuntime, words: &[u16], kept: bool) -> io::Result<()> {
 fn tell_eventually_before(rt: &HostRuntime) -> Result<(), Trouble> {
     println!(rt; "Before T, eventually D at least once")?;
     let words = [0, 0];
-    let pattern = setup::eventually(Form::AtLeast, rule::DRIVEN, 1)?;
-    let kept = judge_stretches(setup::before(rule::THREADED)?, pattern, &words);
+    let pattern = rule::eventually(Form::AtLeast, rule::DRIVEN, 1)?;
+    let kept = judge_stretches(rule::before(rule::THREADED)?, pattern, &words);
     tell_verdict(rt, &words, kept)?;
     Ok(())
 }
@@ -25,14 +24,14 @@ fn tell_eventually_before(rt: &HostRuntime) -> Result<(), Trouble> {
 fn tell_counts(rt: &HostRuntime) -> Result<(), Trouble> {
     let words = [1, 1, 0, 1];
     println!(rt; "Globally, eventually D at most 2 times")?;
-    let eventually = setup::eventually(Form::AtMost, rule::DRIVEN, 2)?;
+    let eventually = rule::eventually(Form::AtMost, rule::DRIVEN, 2)?;
     tell_verdict(
         rt,
         &words,
         judge_stretches(Globally::new(), eventually, &words),
     )?;
     println!(rt; "Globally, precisely D at most 2 times")?;
-    let precisely = setup::precisely(Form::AtMost, rule::DRIVEN, 2)?;
+    let precisely = rule::precisely(Form::AtMost, rule::DRIVEN, 2)?;
     tell_verdict(
         rt,
         &words,
@@ -43,7 +42,7 @@ fn tell_counts(rt: &HostRuntime) -> Result<(), Trouble> {
 
 fn tell_precedes(rt: &HostRuntime) -> Result<(), Trouble> {
     println!(rt; "Globally, D precedes (B, T)")?;
-    let pattern = setup::precedes(&[rule::DRIVEN], &[rule::BREAK, rule::THREADED])?;
+    let pattern = rule::precedes(&[rule::DRIVEN], &[rule::BREAK, rule::THREADED])?;
     let mut layer = Over::new(Globally::new(), pattern);
     for words in [[3, 4], [2, 0]] {
         tell_verdict(rt, &words, judge(&mut layer, &words))?;
@@ -53,8 +52,8 @@ fn tell_precedes(rt: &HostRuntime) -> Result<(), Trouble> {
 
 fn tell_always_before_between(rt: &HostRuntime) -> Result<(), Trouble> {
     println!(rt; "Between B and T, before D, always B")?;
-    let before = Over::new(setup::before(rule::DRIVEN)?, setup::always(rule::BREAK)?);
-    let mut layer = Over::new(setup::between(rule::BREAK, rule::THREADED)?, before);
+    let before = Over::new(rule::before(rule::DRIVEN)?, rule::always(rule::BREAK)?);
+    let mut layer = Over::new(rule::between(rule::BREAK, rule::THREADED)?, before);
     let first = [2, 2, 1, 0, 4];
     tell_verdict(rt, &first, judge(&mut layer, &first))?;
     let second = [2, 0, 1, 4];
