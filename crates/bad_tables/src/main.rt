@@ -1,4 +1,7 @@
 // Shows what is said of one bad table of every kind, and of inputs that hold no two tables.
+
+#![tactic(auto)]
+
 use inspect::report::{TableLine, report};
 use std::alloc::AllocError;
 use std::io;

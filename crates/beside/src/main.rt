@@ -1,4 +1,7 @@
 // Runs the library beside the second implementation, and says how often and where they differ.
+
+#![tactic(auto)]
+
 mod called;
 mod coded;
 mod dice;

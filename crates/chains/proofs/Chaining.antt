@@ -4,7 +4,7 @@ use Rattle.std.proofs.lemmas.List.{drop_more, drop_all}
 use Rattle.std.proofs.lemmas.Bool.{cases_lt}
 use Rattle.std.proofs.lemmas.Bool.Decides.{nat_tests}
 use Rattle.rules.specs.Words.{has}
-use Rattle.chains.specs.Chains.{occurs, up_to, begins}
+use Rattle.chains.specs.Chains.{occurs, up_to}
 use Rattle.chains.specs.Progress.{next_met, front, precedes_on}
 
 pub occurs_next : (c : List ℕ) (k w : ℕ) (l : List ℕ) → occurs (drop k c) (w ∷ l) ≡ occurs (drop (next_met c k w) c) l

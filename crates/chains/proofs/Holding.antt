@@ -1,5 +1,5 @@
 -- The conditions of a chain by their places in its array.
-use Rattle.std.proofs.Common.{◌≡◌, ℕ, zero, suc, ◌+◌, ◌<◌, ◌≤◌, Bool, true, false, ltb, List, [], ◌∷◌, length, get_or, take, drop, sym, refl, ap, ◌∙◌, arith}
+use Rattle.std.proofs.Common.{◌≡◌, ℕ, zero, suc, ◌<◌, ◌≤◌, true, false, ltb, List, [], ◌∷◌, length, get_or, take, drop, sym, refl, arith}
 use Rattle.std.proofs.lemmas.List.{length-take-le, length-map, get_or-take, get_or-map, drop_more, drop_all}
 use Rattle.std.proofs.lemmas.Bool.{le-ltb, both_ways}
 use Rattle.rules.specs.declared.condition.Condition.{Condition}

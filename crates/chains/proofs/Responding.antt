@@ -4,7 +4,7 @@ use mathlib.Core.Path.{fun_ext}
 use Rattle.std.proofs.lemmas.List.{drop_all}
 use Rattle.std.proofs.lemmas.Bool.Decides.{nat_tests}
 use Rattle.rules.specs.Words.{has}
-use Rattle.chains.specs.Chains.{occurs, begins, due, responds}
+use Rattle.chains.specs.Chains.{occurs, due, responds}
 use Rattle.chains.specs.Progress.{next_met, all_due, moved, done, opened, completes, responds_on}
 use Rattle.chains.proofs.Chaining.{occurs_next, occurs_none}
 

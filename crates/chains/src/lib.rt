@@ -1,4 +1,7 @@
 // Patterns over chains of conditions: one chain precedes another, and one responds to another.
+
+#![tactic(auto)]
+
 pub mod chain;
 pub mod laws;
 mod openings;

@@ -1,4 +1,7 @@
 // Reads a pattern table and a scope table, with their lengths, and says what they are found to be.
+
+#![tactic(auto)]
+
 use framing::MOST_INPUT;
 use inspect::report::report;
 use std::io;

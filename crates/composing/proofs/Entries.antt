@@ -1,5 +1,5 @@
 -- What reading an entry of a lawful table gives.
-use Rattle.std.proofs.Common.{◌≡◌, ℕ, ◌%◌, ◌<◌, true, false, ltb, List, is_some, unwrap_or, sym, refl, ap, ◌∙◌, subst, arith}
+use Rattle.std.proofs.Common.{◌≡◌, ℕ, ◌%◌, ◌<◌, true, false, List, is_some, unwrap_or, sym, refl, ◌∙◌, subst}
 use Rattle.std.proofs.lemmas.Bool.{lt-ltb, false≢true}
 use Rattle.table_format.specs.declared.kind.Kind.{Kind}
 use Rattle.table_format.specs.declared.kind.Kind.TheVariants.{Pattern, Scope}

@@ -1,5 +1,5 @@
 -- Runs through the places of a composed table judge as the scope table over the pattern table does, word by word.
-use Rattle.std.proofs.Common.{◌≡◌, ℕ, ◌%◌, Bool, true, false, cond, not, ◌&&◌, ◌||◌, List, [], ◌∷◌, Some, None, Option, sym, refl, ap, ◌∙◌}
+use Rattle.std.proofs.Common.{◌≡◌, ℕ, ◌%◌, Bool, true, false, cond, not, ◌&&◌, ◌||◌, List, [], ◌∷◌, Some, None, Option, refl, ap, ◌∙◌}
 use Rattle.rules.specs.declared.mark.Mark.{Mark}
 use Rattle.rules.specs.declared.mark.Mark.TheVariants.{Out, In, Last, Anew}
 use Rattle.table_format.specs.declared.kind.Kind.TheVariants.{Pattern, Scope}
@@ -8,7 +8,7 @@ use Rattle.tables.specs.Runs.{mark_of, letter_of, state_next, accepts_from, mark
 use Rattle.layer.specs.Stretches.{Open, shut, open_with, closed, opened, judged}
 use Rattle.composing.specs.declared.place.Place.{Place}
 use Rattle.composing.specs.declared.place.Place.TheVariants.{Failed, Outside, Inside}
-use Rattle.composing.specs.Composed.{place_flag, lands, leads}
+use Rattle.composing.specs.Composed.{place_flag, lands}
 use Rattle.composing.proofs.Lawful.{place_after}
 
 module _ (p s : List ℕ) (same : size_of p ≡ size_of s) where

@@ -1,6 +1,5 @@
 -- THE COMPOSITION LAW
-use Rattle.std.proofs.Common.{◌≡◌, ℕ, ◌+◌, ◌*◌, ◌<◌, ◌≤◌, Bool, true, false, cond, not, ◌&&◌, eqb, ltb, List, length, is_some, is_ok, IfOk, Some, None, Ok, Err, Decides, Option, Result, sym, refl, ap, ◌∙◌, subst, zero-mul, arith}
-use Rattle.std.proofs.lemmas.Bool.{false≢true}
+use Rattle.std.proofs.Common.{◌≡◌, ℕ, ◌*◌, ◌<◌, ◌≤◌, Bool, true, false, cond, not, ◌&&◌, eqb, ltb, List, length, is_some, is_ok, IfOk, Some, None, Ok, Err, Decides, Option, Result, sym, refl, ap, ◌∙◌, zero-mul, arith}
 use Rattle.std.proofs.lemmas.Bool.Decides.{nat_tests, Decides-and, Decides-like, Decides-eqb, Decides-not, Decides-ltb, Decides-at}
 use Rattle.table_format.specs.declared.fault.TableFault.{TableFault}
 use Rattle.table_format.specs.declared.kind.Kind.{Kind}
@@ -10,14 +9,13 @@ use Rattle.table_format.specs.Lawful.{Lawful}
 use Rattle.table_format.specs.Layout.{width_of, states_of}
 use Rattle.tables.specs.Runs.{accepts, marks, says}
 use Rattle.table_format.proofs.Laws.{lawful, checked_lawful}
-use Rattle.layer.specs.Judged.{AcceptsEach}
 use Rattle.layer.proofs.Laws.{judged_is}
 use Rattle.layer.proofs.Places.{decided}
 use Rattle.composing.specs.declared.fault.ComposeFault.{ComposeFault}
 use Rattle.composing.specs.declared.fault.ComposeFault.TheVariants.{Pattern, Scope, Widths, States, Room}
 use Rattle.composing.specs.declared.place.Place.TheVariants.{Outside}
 use Rattle.composing.specs.Composed.{block_of, total_of, composed, composed_length}
-use Rattle.composing.specs.Composing.{fault_or, fitting, composing, Composable, Composes}
+use Rattle.composing.specs.Composing.{fault_or, composing, Composable, Composes}
 use Rattle.composing.proofs.Lawful.{same_size, length_composed, composed_lawful, runs_composed}
 use Rattle.composing.proofs.Judging.{alike}
 

@@ -9,7 +9,7 @@ use Rattle.rules.specs.declared.mark.Mark.{Mark}
 use Rattle.rules.specs.declared.mark.Mark.TheVariants.{Out, In, Last, Anew}
 use Rattle.table_format.specs.declared.kind.Kind.TheVariants.{Pattern, Scope}
 use Rattle.table_format.specs.Lawful.{Lawful}
-use Rattle.table_format.specs.Layout.{target, states_of, width_of, size_of, flag_of, entry_of, row_start}
+use Rattle.table_format.specs.Layout.{target, states_of, width_of, size_of, flag_of, entry_of}
 use Rattle.tables.specs.Runs.{mark_of, accepts_from}
 use Rattle.table_format.proofs.Laws.{row_within}
 use Rattle.composing.specs.declared.place.Place.{Place}

@@ -1,5 +1,5 @@
 -- When two tables compose, what is refused otherwise, and what the composed table means.
-use Rattle.std.specs.Prelude.{◌≡◌, ℕ, ◌≤◌, Bool, cond, not, List, ◌++◌, drop, Some, None, Ok, Err, Decides, Option, Result, ◌==◌, nat_lt}
+use Rattle.std.specs.Prelude.{◌≡◌, ℕ, ◌≤◌, cond, not, List, ◌++◌, drop, Some, None, Ok, Err, Decides, Option, Result, ◌==◌, nat_lt}
 use Rattle.table_format.specs.declared.fault.TableFault.{TableFault}
 use Rattle.table_format.specs.declared.kind.Kind.TheVariants.{Pattern as PatternKind, Scope as ScopeKind}
 use Rattle.table_format.specs.Checked.{checked}

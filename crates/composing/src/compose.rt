@@ -16,8 +16,8 @@ fn compose_tables<'a>(
     scope: Table<'a>,
     out: &mut [u8],
 ) -> Result<usize, ComposeFault>
-    requires kind_value { is_pattern pattern.kind ≡ true }
-    requires kind_value_2 { is_pattern scope.kind ≡ false }
+    requires pattern_kind { is_pattern pattern.kind ≡ true }
+    requires scope_kind { is_pattern scope.kind ≡ false }
     ensures value { result ≡ fitting pattern.entry.bytes.now scope.entry.bytes.now (length out.old) }
     ensures short { IfOk result (λ n. n ≤ 16252) }
     ensures bytes { out.new ≡ afterwards result (composed pattern.entry.bytes.now scope.entry.bytes.now) out.old }

@@ -28,10 +28,10 @@ pub struct Composer<'a> {
 
 impl<'a> Composer<'a> {
     pub(crate) fn over(pattern: Table<'a>, scope: Table<'a>) -> Composer<'a>
-        requires kind_value { is_pattern pattern.kind ≡ true }
-        requires kind_value_2 { is_pattern scope.kind ≡ false }
-        requires bytes_value { width_of pattern.bytes.now ≡ width_of scope.bytes.now }
-        requires bytes_bound { total_of pattern.bytes.now scope.bytes.now ≤ 250 }
+        requires pattern_kind { is_pattern pattern.kind ≡ true }
+        requires scope_kind { is_pattern scope.kind ≡ false }
+        requires one_width { width_of pattern.bytes.now ≡ width_of scope.bytes.now }
+        requires few_states { total_of pattern.bytes.now scope.bytes.now ≤ 250 }
         ensures pattern { result.pattern ≡ pattern.entry }
         ensures scope { result.scope ≡ scope.entry }
     {
@@ -122,7 +122,7 @@ impl<'a> Composer<'a> {
 
     // Where a letter leads from a place.
     fn leads(&self, place: Place, letter: usize) -> Place
-        requires within_2 { Within (states_of self.now.pattern.bytes.now) (states_of self.now.scope.bytes.now) place }
+        requires placed { Within (states_of self.now.pattern.bytes.now) (states_of self.now.scope.bytes.now) place }
         requires letter_bound { letter < size_of self.now.pattern.bytes.now }
         ensures value { result ≡ leads self.now.pattern.bytes.now self.now.scope.bytes.now letter place }
         ensures within { Within (states_of self.now.pattern.bytes.now) (states_of self.now.scope.bytes.now) result }
@@ -150,7 +150,7 @@ impl<'a> Composer<'a> {
     }
 
     fn entry(&self, place: Place, letter: usize) -> u8
-        requires within { Within (states_of self.now.pattern.bytes.now) (states_of self.now.scope.bytes.now) place }
+        requires placed { Within (states_of self.now.pattern.bytes.now) (states_of self.now.scope.bytes.now) place }
         requires letter_bound { letter < size_of self.now.pattern.bytes.now }
         ensures { result ≡ entry_from self.now.pattern.bytes.now self.now.scope.bytes.now place letter }
     {

@@ -1,5 +1,5 @@
 -- The number that a list of bits makes.
-use Rattle.std.proofs.Common.{◌≡◌, ℕ, zero, suc, ◌+◌, ◌-◌, ◌*◌, ◌/◌, ◌%◌, ◌^◌, ◌<◌, ◌≤◌, Bool, true, false, cond, List, [], ◌∷◌, map, length, get_or, take, drop, sym, refl, ap, ◌∙◌, subst, pow-suc, arith, pow_mono}
+use Rattle.std.proofs.Common.{◌≡◌, ℕ, ◌+◌, ◌-◌, ◌*◌, ◌^◌, ◌<◌, ◌≤◌, Bool, true, false, cond, List, [], ◌∷◌, map, length, get_or, drop, sym, refl, ap, ◌∙◌, pow-suc, arith, pow_mono}
 use mir.Val.{bool_byte}
 use Rattle.std.proofs.lemmas.List.{drop_more, at_drop_all, get_or-map, length-map, length-drop}
 use Rattle.encoders.specs.Holding.{number}

@@ -7,7 +7,7 @@ use Rattle.std.proofs.lemmas.List.{length-map}
 use Rattle.std.proofs.lemmas.Bool.Decides.{Decides-at, Decides-by_or}
 use Rattle.rules.specs.Words.{has}
 use Rattle.encoders.specs.Holding.{some, number, word}
-use Rattle.encoders.specs.Laws.{Fitted, Says}
+use Rattle.encoders.specs.Laws.{Says}
 use Rattle.encoders.proofs.Numbering.{number_below}
 
 lowest : (b : Bool) → eqb (cond b 1 0 % 2) 1 ≡ b

@@ -1,5 +1,5 @@
 -- What is shown of the encoders' words.
-use Rattle.std.specs.Prelude.{◌≡◌, ℕ, ◌+◌, ◌*◌, ◌^◌, ◌<◌, Bool, true, false, List, [], ◌∷◌, map, length, ℤ, pos, negsuc, ◌≤ℤ◌, Ok, Decides, bit_and, slice_index_or}
+use Rattle.std.specs.Prelude.{◌≡◌, ℕ, ◌+◌, ◌*◌, ◌^◌, ◌<◌, true, false, List, [], ◌∷◌, map, length, ℤ, pos, negsuc, ◌≤ℤ◌, Ok, Decides, bit_and, slice_index_or}
 use Rattle.std.specs.List.{HoldsAt}
 use Rattle.rules.specs.Words.{has}
 use Rattle.encoders.specs.declared.contacts.Contacts.{Contacts}

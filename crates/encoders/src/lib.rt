@@ -1,4 +1,7 @@
 // Encoders: from a part of a record's bytes to a word of 16 conditions.
+
+#![tactic(auto)]
+
 mod conditions;
 pub mod contacts;
 pub mod laws;

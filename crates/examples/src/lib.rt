@@ -1,4 +1,7 @@
 // Worked examples of rules and records, computed by the definitions that the contracts cite.
+
+#![tactic(auto)]
+
 ghost use Rattle.std.specs.Prelude.{◌≡◌};
 ghost use Rattle.examples.specs.Worked.{Worked};
 

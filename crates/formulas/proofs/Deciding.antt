@@ -4,7 +4,7 @@ use Rattle.std.proofs.lemmas.List.{drop_all}
 use Rattle.std.proofs.lemmas.Bool.{both_ways, cases_lt}
 use Rattle.std.proofs.lemmas.Bool.Decides.{Decides-at, Decides-like, Decides-not, Decides-and, Decides-or}
 use Rattle.rules.specs.Words.{has}
-use Rattle.formulas.specs.Formulas.{Formula, From, Until, Holds}
+use Rattle.formulas.specs.Formulas.{From, Until, Holds}
 use Rattle.formulas.specs.Formulas.Formula.{is, ~◌, ◌&◌, ◌⇒◌, ○◌, □◌, ◇◌, ◌U◌, ◌W◌}
 use Rattle.formulas.specs.Tests.{Test, first_has, next, throughout, somewhere, until, unless, test_of}
 use Rattle.formulas.specs.Laws.{TestsDecide}

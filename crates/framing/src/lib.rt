@@ -1,4 +1,7 @@
 // A program's input: parts that each follow their own length.
+
+#![tactic(auto)]
+
 ghost use Rattle.std.specs.Prelude.{◌≡◌};
 ghost use Rattle.framing.specs.Framed.{fault_number, announcement, parts_of, split, held, framed};
 

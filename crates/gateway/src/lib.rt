@@ -1,4 +1,7 @@
 // The entries for C programs: numbers and byte buffers in, numbers out.
+
+#![tactic(auto)]
+
 ghost use Rattle.std.specs.Prelude.{◌≡◌, length, pos, neg_ℤ};
 ghost use Rattle.gateway.specs.Codes.{check_code, length_code};
 ghost use Rattle.composing.specs.Composed.{composed};

@@ -1,4 +1,7 @@
 // Reads a pattern table, a scope table and a record of letters, and prints whether the record keeps the rule.
+
+#![tactic(auto)]
+
 use framing::MOST_INPUT;
 use judging::line::{LINE_ROOM, judge_line};
 use std::io;

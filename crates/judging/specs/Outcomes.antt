@@ -1,5 +1,5 @@
 -- What an input is judged to be.
-use Rattle.std.specs.Prelude.{ℕ, Bool, true, cond, List, [], drop, Ok, Err, Result}
+use Rattle.std.specs.Prelude.{ℕ, Bool, true, List, [], Ok, Err, Result}
 use Rattle.framing.specs.declared.InputFault.{InputFault}
 use Rattle.framing.specs.Framed.{fault_number, framed}
 use Rattle.composing.specs.declared.fault.ComposeFault.{ComposeFault}

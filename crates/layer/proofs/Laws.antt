@@ -1,11 +1,11 @@
 -- Judging word by word gives what the stretches by their places give.
-use Rattle.std.proofs.Common.{◌≡◌, ℕ, zero, suc, ◌<◌, ◌≤◌, Bool, true, false, not, ◌&&◌, ◌||◌, List, [], ◌∷◌, length, take, drop, Decides, sym, refl, ap, ◌∙◌, ap₂, suc-le-suc, zero-le, le_of_suc-le-suc, arith}
+use Rattle.std.proofs.Common.{◌≡◌, ℕ, zero, suc, ◌<◌, ◌≤◌, Bool, true, false, not, ◌&&◌, ◌||◌, List, [], ◌∷◌, length, take, Decides, sym, refl, ap, ◌∙◌, ap₂, suc-le-suc, zero-le, le_of_suc-le-suc, arith}
 use mathlib.Core.Path.{fun_ext}
 use Rattle.std.proofs.lemmas.Bool.{and_parts}
 use Rattle.rules.specs.declared.mark.Mark.{Mark}
 use Rattle.rules.specs.declared.mark.Mark.TheVariants.{Out, In, Last, Anew}
 use Rattle.layer.specs.Stretches.{Open, shut, open_with, judged, opened, closed, ends_well}
-use Rattle.layer.specs.Blocks.{at, each, is_out, is_in, is_last, is_anew, begins, at_border, unbroken, ends, is_judged, part, all_accepted, marks_of, accepts_over, EveryStretch}
+use Rattle.layer.specs.Blocks.{at, each, is_out, is_in, is_last, is_anew, at_border, unbroken, ends, is_judged, part, all_accepted, marks_of, accepts_over, EveryStretch}
 
 and_true : (b : Bool) → (b && true) ≡ b
 and_true true = refl

@@ -1,10 +1,10 @@
 -- The tests of places decide the facts.
-use Rattle.std.proofs.Common.{◌≡◌, ℕ, zero, suc, ◌<◌, ◌≤◌, Bool, true, false, not, ◌&&◌, ◌||◌, ◌⊎◌, List, [], ◌∷◌, length, get_or, Decides, sym, refl, ap, ◌∙◌, inl, inr, suc-le-suc, zero-le, le_of_suc-le-suc, arith}
+use Rattle.std.proofs.Common.{◌≡◌, ℕ, zero, suc, ◌<◌, ◌≤◌, Bool, true, false, not, ◌⊎◌, List, [], ◌∷◌, length, Decides, refl, ap, suc-le-suc, zero-le, le_of_suc-le-suc, arith}
 use Rattle.std.proofs.lemmas.Bool.{false≢true}
 use Rattle.std.proofs.lemmas.Bool.Decides.{Decides-and, Decides-or, Decides-not, Decides-like}
 use Rattle.rules.specs.declared.mark.Mark.{Mark}
 use Rattle.rules.specs.declared.mark.Mark.TheVariants.{Out, In, Last, Anew}
-use Rattle.layer.specs.Blocks.{at, there, each, is_out, is_in, is_last, is_anew, begins, at_border, unbroken, is_block, is_closed, is_unclosed, ends, is_judged, part, marks_of, accepts_over}
+use Rattle.layer.specs.Blocks.{at, there, each, is_out, is_in, is_last, is_anew, begins, at_border, is_block, is_unclosed, ends, is_judged, marks_of, accepts_over}
 use Rattle.layer.specs.Judged.{Place, Border, Block, Closed, Unclosed, Judged, AcceptsEach}
 use Rattle.layer.proofs.Laws.{each_at, each_from, layer_law}
 

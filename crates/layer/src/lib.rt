@@ -1,3 +1,6 @@
 // Scopes over patterns, which are patterns again.
+
+#![tactic(auto)]
+
 pub mod judging;
 pub mod over;

@@ -1,5 +1,5 @@
 -- Counting word by word where a condition comes up gives the number of places where it does.
-use Rattle.std.proofs.Common.{◌≡◌, ℕ, zero, suc, ◌+◌, Bool, true, false, cond, not, ◌&&◌, List, [], ◌∷◌, length, sym, refl, ap, ◌∙◌, zero-add}
+use Rattle.std.proofs.Common.{◌≡◌, ℕ, zero, suc, ◌+◌, Bool, true, false, cond, not, ◌&&◌, List, [], ◌∷◌, length, refl, ap, ◌∙◌, zero-add}
 use mathlib.Core.Path.{fun_ext}
 use Rattle.rules.specs.Words.{has}
 use Rattle.patterns.specs.declared.form.Form.{Form}

@@ -1,7 +1,6 @@
 -- What holds of every word holds at every place.
-use Rattle.std.proofs.Common.{◌≡◌, ℕ, zero, suc, ◌<◌, Bool, true, false, not, ◌&&◌, List, [], ◌∷◌, length, get_or, Decides, refl, ⊎_elim, le_of_suc-le-suc, arith}
+use Rattle.std.proofs.Common.{◌≡◌, ℕ, zero, suc, ◌<◌, Bool, true, not, List, [], ◌∷◌, length, get_or, refl, ⊎_elim, le_of_suc-le-suc, arith}
 use Rattle.std.proofs.lemmas.Bool.{and_parts, and_from, both_ways, not-true, not_from_false, cases_Bool}
-use Rattle.std.proofs.lemmas.Bool.Decides.{Decides-like}
 use Rattle.rules.specs.Words.{has}
 use Rattle.patterns.specs.Places.{every}
 use Rattle.patterns.specs.Laws.{AlwaysByPlaces, NeverByPlaces}

@@ -1,4 +1,7 @@
 // The plain patterns (always, never) and the counting ones (eventually, precisely).
+
+#![tactic(auto)]
+
 pub mod always;
 mod counter;
 pub mod eventually;

@@ -1,4 +1,7 @@
 // What every encoder, scope and pattern is, and what they share: conditions, marks and refusals.
+
+#![tactic(auto)]
+
 pub mod condition;
 pub mod encoder;
 pub mod mark;

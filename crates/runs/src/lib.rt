@@ -1,4 +1,7 @@
 // The answers of a watch to a list of calls.
+
+#![tactic(auto)]
+
 ghost use Rattle.std.specs.Prelude.{◌≡◌, List, [], ◌∷◌, IfOk, Decides};
 ghost use Rattle.layer.specs.Blocks.{accepts_over};
 ghost use Rattle.layer.specs.Judged.{AcceptsEach};

@@ -1,10 +1,10 @@
 -- The scopes by the places of a list.
-use Rattle.std.proofs.Common.{◌≡◌, ℕ, zero, suc, ◌<◌, ◌≤◌, Bool, true, false, cond, not, ◌&&◌, ◌||◌, ◌⊎◌, List, [], ◌∷◌, ◌++◌, length, get_or, Decides, sym, refl, ap, ◌∙◌, inl, inr, ⊎_elim, le_of_suc-le-suc, arith}
-use Rattle.std.proofs.lemmas.Bool.{false≢true, both_ways, not-true, and_parts, and_from, or_cases, or_left, or_right, not_from_false, cases_Bool}
+use Rattle.std.proofs.Common.{◌≡◌, ℕ, zero, suc, ◌<◌, Bool, true, false, cond, not, ◌&&◌, ◌||◌, List, [], ◌∷◌, ◌++◌, length, get_or, sym, refl, ap, ◌∙◌, ⊎_elim, le_of_suc-le-suc, arith}
+use Rattle.std.proofs.lemmas.Bool.{false≢true, both_ways, not-true, and_parts, or_cases, or_left, or_right, cases_Bool}
 use Rattle.std.proofs.lemmas.Bool.Decides.{nat_tests}
 use Rattle.rules.specs.Words.{has}
 use Rattle.rules.specs.declared.mark.Mark.TheVariants.{Out, In}
-use Rattle.scopes.specs.Marks.{some_has, inside, between_mark}
+use Rattle.scopes.specs.Marks.{some_has, inside}
 use Rattle.scopes.specs.Places.{SomePlace, Open, SeenByPlaces, InsideByPlaces, Turns, InInside}
 
 some_to : (c : ℕ) (l : List ℕ) → some_has c l ≡ true → SomePlace c l

@@ -1,5 +1,5 @@
 -- The scopes once more, by the places of a list.
-use Rattle.std.specs.Prelude.{◌≡◌, ℕ, ◌<◌, Bool, true, false, cond, not, ◌&&◌, List, [], ◌∷◌, ◌++◌, length, Decides, slice_index}
+use Rattle.std.specs.Prelude.{◌≡◌, ℕ, ◌<◌, true, false, cond, not, ◌&&◌, List, [], ◌∷◌, ◌++◌, length, Decides, slice_index}
 use Rattle.rules.specs.declared.mark.Mark.TheVariants.{Out, In}
 use Rattle.rules.specs.Words.{has}
 use Rattle.scopes.specs.Marks.{some_has, inside, between_mark}

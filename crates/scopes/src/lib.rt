@@ -1,4 +1,7 @@
 // The scopes: which words of a list belong to a stretch.
+
+#![tactic(auto)]
+
 pub mod after;
 pub mod after_unless;
 pub mod before;

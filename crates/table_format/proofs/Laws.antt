@@ -1,10 +1,8 @@
 -- Checking succeeds exactly on lawful tables, and a fault says what is wrong.
-use Rattle.std.proofs.Common.{◌≡◌, ℕ, ◌+◌, ◌-◌, ◌*◌, ◌/◌, ◌%◌, ◌<◌, ◌≤◌, Bool, true, false, cond, not, ◌||◌, eqb, ltb, List, length, get_or, take, drop, is_some, is_ok, IfErr, Some, None, Ok, Err, Decides, Option, Result, sym, refl, ap, ◌∙◌, subst, mul-le-mul_right, suc-mul, arith, length-drop, length-take, pow_mono}
+use Rattle.std.proofs.Common.{◌≡◌, ℕ, ◌+◌, ◌-◌, ◌*◌, ◌/◌, ◌%◌, ◌<◌, ◌≤◌, true, false, ltb, List, length, get_or, take, drop, is_some, is_ok, IfErr, Some, Ok, Err, Decides, Result, sym, refl, ap, ◌∙◌, mul-le-mul_right, suc-mul, arith, length-drop, length-take}
 use Rattle.std.specs.Result.{result_err}
-use Rattle.std.specs.List.{prefix_len}
 use Rattle.std.proofs.lemmas.Nat.{pow_pos, div-add-mod', div_below, mod_below}
 use Rattle.std.proofs.lemmas.List.{get_or-drop, get_or-take}
-use Rattle.std.proofs.lemmas.List.Sums.{prefix_len-le-length}
 use Rattle.std.proofs.lemmas.Bool.{ltb-true, ltb-false, lt-ltb, false≢true}
 use Rattle.std.proofs.lemmas.Bool.Decides.{nat_tests}
 use Rattle.table_format.specs.declared.kind.Kind.{Kind}

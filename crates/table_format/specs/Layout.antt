@@ -1,5 +1,5 @@
 -- Where a table has what. Its bytes are, in order, the number n of states, n flags, the width k, and n rows of 2^k entries.
-use Rattle.std.specs.Prelude.{ℕ, ◌+◌, ◌*◌, ◌/◌, ◌%◌, ◌^◌, Bool, true, false, cond, ◌&&◌, List, [], ◌∷◌, Some, None, Option, ◌==◌, nat_lt, slice_index}
+use Rattle.std.specs.Prelude.{ℕ, ◌+◌, ◌*◌, ◌%◌, ◌^◌, Bool, true, false, cond, ◌&&◌, List, [], ◌∷◌, Some, None, Option, ◌==◌, nat_lt, slice_index}
 use Rattle.table_format.specs.declared.kind.Kind.{Kind}
 use Rattle.table_format.specs.declared.kind.Kind.TheVariants.{Pattern, Scope}
 

@@ -1,4 +1,7 @@
 // Lawful tables, and the patterns and scopes that they are.
+
+#![tactic(auto)]
+
 pub mod mark;
 pub mod pattern;
 pub mod scope;

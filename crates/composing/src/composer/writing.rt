@@ -17,7 +17,7 @@ impl<'a> Composer<'a> {
     }
 
     fn write_row(&self, place: Place, row: &mut [u8])
-        requires within { Within (states_of self.now.pattern.bytes.now) (states_of self.now.scope.bytes.now) place }
+        requires placed { Within (states_of self.now.pattern.bytes.now) (states_of self.now.scope.bytes.now) place }
         requires row_len { length row.old ≡ size_of self.now.pattern.bytes.now }
         ensures { row.new ≡ map (entry_from self.now.pattern.bytes.now self.now.scope.bytes.now place) (range_with_len 0 (size_of self.now.pattern.bytes.now)) }
     {

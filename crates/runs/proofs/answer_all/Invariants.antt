@@ -1,4 +1,4 @@
-use Rattle.std.proofs.Common.{◌≡◌, ℕ, ◌++◌, drop, vec_items}
+use Rattle.std.proofs.Common.{◌≡◌, ◌++◌, drop, vec_items}
 use Rattle.watch.specs.Accepted.{Samples}
 use Rattle.watch.specs.After.{After}
 use Rattle.runs.specs.Runs.{answers}

@@ -9,8 +9,8 @@ pub returns : goal.returns
 returns g c =
     let made = c.new-watch.ensures in
     record {
-      answers = IfOk-weaker c.answer-all.result _ _
+      answers = IfOk-weaker c.answer_all.result _ _
           (λ v e. e ∙ (λ i. answers (g.E.Encoder.codes (made.encoder i)) (g.E.Encoder.size (made.encoder i)) (made.rule i) [] c.args.calls.now))
-          (c.answer-all.ensures [] made.after);
+          (c.answer_all.ensures [] made.after);
       verdicts = λ list. layer (g.S.Scope.marks c.args.scope) (g.S.Scope.answers c.args.scope) (g.P.Pattern.meaning c.args.pattern) (words (g.E.Encoder.codes c.args.encoder) list);
     }

@@ -7,7 +7,7 @@ use Rattle.std.proofs.lemmas.Bool.Decides.{Decides-and, Decides-eqb}
 use Rattle.encoders.specs.Contact.{contact_fits}
 use Rattle.encoders.specs.Event.{event_fits, signed}
 use Rattle.encoders.specs.Holding.{word}
-use Rattle.encoders.specs.Held.{contact_term, event_term, terms_of, lists_of}
+use Rattle.encoders.specs.Held.{terms_of}
 use Rattle.encoders.specs.Laws.{ContactWords, EventWords, SixteenLists}
 use Rattle.encoders.proofs.Saying.{word_says, decides_le_z}
 use Rattle.encoders.proofs.laws.words_stand.Goals as goal

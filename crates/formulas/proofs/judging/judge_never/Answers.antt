@@ -4,4 +4,4 @@ use Rattle.formulas.proofs.judging.judge_never.Goals as goal
 
 pub returns : goal.returns
 returns c =
-    by_setting c.args.words.now (lt-ltb c.args.p 16 c.in-ok-set-condition.ensures.0) c.judge.ensures.value c.in-ok-set-condition.ensures.1
+    by_setting c.args.words.now (lt-ltb c.args.p 16 c.in_ok-set_condition.ensures.0) c.judge.ensures.value c.in_ok-set_condition.ensures.1

@@ -3,4 +3,4 @@ use Rattle.formulas.proofs.judging.judge_responds.Goals as goal
 
 pub returns : goal.returns
 returns c =
-    by_setting c.args.words.now c.in-ok-set-chains.ensures.0 c.judge.ensures.value c.in-ok-set-chains.ensures.1
+    by_setting c.args.words.now c.in_ok-set_chains.ensures.0 c.judge.ensures.value c.in_ok-set_chains.ensures.1

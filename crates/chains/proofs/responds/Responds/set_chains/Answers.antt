@@ -5,6 +5,6 @@ use Rattle.chains.proofs.responds.Responds.set_chains.Goals as goal
 
 pub returns : goal.returns
 returns c =
-    let stimulus = c.in-ok-stimulus.ensures in
-    let response = c.in-ok-response.ensures in
+    let stimulus = c.in_ok-stimulus.ensures in
+    let response = c.in_ok-response.ensures in
     search (rules, responds_same, and_from)

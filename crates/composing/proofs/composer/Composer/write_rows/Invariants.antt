@@ -1,4 +1,4 @@
-use Rattle.std.proofs.Common.{◌≡◌, ℕ, ◌*◌, take}
+use Rattle.std.proofs.Common.{◌≡◌, ◌*◌, take}
 use Rattle.composing.specs.Composed.{rows_of}
 use Rattle.composing.proofs.composer.Composer.write_rows.Given as goal
 

@@ -1,16 +1,16 @@
-use Rattle.std.proofs.Common.{◌<◌, arith, rules}
+use Rattle.std.proofs.Common.{◌<◌, arith}
 use Rattle.encoders.specs.Holding.{some}
 use Rattle.encoders.specs.Held.{terms_of}
 use Rattle.encoders.proofs.Numbering.{number_room, number_more, number_none, byte_small}
 use Rattle.encoders.proofs.conditions.Conditions.word.Goals as goal
 
-pub overflow-mul-bits : goal.overflow-mul-bits
-overflow-mul-bits g c =
+pub overflow_mul-bits : goal.overflow_mul-bits
+overflow_mul-bits g c =
     let h : c.loop-i.bits < 32768 = number_room (some (λ t. g.T.Term.fits t c.args.sample)) terms_of c.args.self.now.lists c.loop-i.i c.loop-i.bits c.args.self.now.whole c.loop-i-test.true c.loop-i.invariant
     in record { fits = omega arith }
 
-pub overflow-add-bits : goal.overflow-add-bits
-overflow-add-bits g c =
+pub overflow_add-bits : goal.overflow_add-bits
+overflow_add-bits g c =
     let h : c.loop-i.bits < 32768 = number_room (some (λ t. g.T.Term.fits t c.args.sample)) terms_of c.args.self.now.lists c.loop-i.i c.loop-i.bits c.args.self.now.whole c.loop-i-test.true c.loop-i.invariant
     in record { fits = omega (arith, byte_small c.fit.result, c.from.ensures) }
 

@@ -4,7 +4,7 @@ use Rattle.patterns.proofs.eventually.Eventually.set_condition.Goals as goal
 
 pub returns : goal.returns
 returns c =
-    let set = c.in-ok-set-condition.ensures in
+    let set = c.in_ok-set_condition.ensures in
     let same = same_settings set.1.0 set.1.1 set.1.2 in
     record {
       settings = (set.0, set.1);
