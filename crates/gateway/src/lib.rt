@@ -1,4 +1,4 @@
-// The entries for C programs: numbers and byte buffers in, numbers out.
+// The entries for C programs: numbers and byte buffers in, numbers out. The crate gateway_c exports them.
 
 #![tactic(auto)]
 
@@ -30,23 +30,20 @@ fn check_code(kind: Kind, bytes: &[u8]) -> i32
     }
 }
 
-#[unsafe(no_mangle)]
-pub extern "C" fn vontiqa_check_pattern_table(bytes: &[u8]) -> i32
+pub fn vontiqa_check_pattern_table(bytes: &[u8]) -> i32
     ensures { result ≡ check_code (checked Pattern bytes.now) }
 {
     check_code(Kind::Pattern, bytes)
 }
 
-#[unsafe(no_mangle)]
-pub extern "C" fn vontiqa_check_scope_table(bytes: &[u8]) -> i32
+pub fn vontiqa_check_scope_table(bytes: &[u8]) -> i32
     ensures { result ≡ check_code (checked Scope bytes.now) }
 {
     check_code(Kind::Scope, bytes)
 }
 
 // The length of the composed table, written at the front of `out`, or minus the refusal's number.
-#[unsafe(no_mangle)]
-pub extern "C" fn vontiqa_compose<'a>(pattern: &'a [u8], scope: &'a [u8], out: &mut [u8]) -> i32
+pub fn vontiqa_compose<'a>(pattern: &'a [u8], scope: &'a [u8], out: &mut [u8]) -> i32
     ensures value { result ≡ length_code (composing pattern.now scope.now (length out.old)) }
     ensures bytes { out.new ≡ afterwards (composing pattern.now scope.now (length out.old)) (composed pattern.now scope.now) out.old }
 {
