@@ -1,4 +1,4 @@
-/* Vontiqa's entries for C programs: link target/staticlib/libgateway.a and librattle_c.a of the kit. */
+/* Vontiqa's entries for C programs: link target/staticlib/libgateway.a, which tools/staticlib makes. */
 #ifndef VONTIQA_H
 #define VONTIQA_H
 

@@ -6,7 +6,7 @@ pub fn chains_stand() -> u8
     ensures occurs { OccursLaw }
     ensures precedes { PrecedesLaw }
     ensures responds { RespondsLaw }
-    ensures examples { (TwiceExamples) × ((PrecedesExamples) × (RespondsExamples)) }
+    ensures examples { TwiceExamples × (PrecedesExamples × RespondsExamples) }
     ensures answer { result ≡ 0 }
 {
     0

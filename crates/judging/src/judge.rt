@@ -8,7 +8,6 @@ use crate::fault::JudgeFault;
 use composing::compose::compose;
 use encoders::letters::Letters;
 use framing::tables_of;
-use rules::pattern::Pattern;
 use scopes::globally::Globally;
 use tables::pattern::TablePattern;
 use watch::fault::PlayFault;

@@ -3,8 +3,8 @@ ghost use Rattle.patterns.specs.Laws.{AlwaysByPlaces, NeverByPlaces, Counted, Em
 
 // The plain patterns by places, and computed examples: nothing to run, only to be proved.
 pub fn counts_stand() -> u8
-    ensures places { (AlwaysByPlaces) × (NeverByPlaces) }
-    ensures examples { (Counted) × ((Empty) × (Plain)) }
+    ensures places { AlwaysByPlaces × NeverByPlaces }
+    ensures examples { Counted × (Empty × Plain) }
     ensures nothing { result ≡ 0 }
 {
     0

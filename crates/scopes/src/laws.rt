@@ -4,9 +4,9 @@ ghost use Rattle.scopes.specs.Places.{SeenByPlaces, InsideByPlaces, Turns, InIns
 
 // The marks by the places of a list, and computed examples: nothing to run, only to be proved.
 pub fn scopes_stand() -> u8
-    ensures places { (SeenByPlaces) × (InsideByPlaces) }
-    ensures words { (Turns) × (InInside) }
-    ensures examples { (Closes) × ((Both) × (Once)) }
+    ensures places { SeenByPlaces × InsideByPlaces }
+    ensures words { Turns × InInside }
+    ensures examples { Closes × (Both × Once) }
     ensures nothing { result ≡ 0 }
 {
     0
