@@ -14,7 +14,7 @@ judge_record-requires c =
     let made = c.in_ok-n.ensures in
     let p = c.in_ok-parts.parts.pattern.now in
     let s = c.in_ok-parts.parts.scope.now in
-    let t = front c.in_ok-n.n (composed p s) c.args.scratch.now c.compose.new.out made.bytes made.long in
+    let t = front c.in_ok-n.n (composed p s) _ c.compose.new.out made.bytes made.long in
     ap (checked PatternKind) t ∙ unchecked (checked PatternKind (composed p s)) (checked_lawful PatternKind (composed p s) made.law.lawful)
 
 pub returns-in_err-judge_record : goal.returns-in_err-judge_record
@@ -24,7 +24,7 @@ returns-in_err-judge_record c =
     let p = parts.pattern.now in
     let s = parts.scope.now in
     let old = c.args.scratch.now in
-    let t = front c.in_ok-n.n (composed p s) old c.compose.new.out made.bytes made.long in
+    let t = front c.in_ok-n.n (composed p s) _ c.compose.new.out made.bytes made.long in
     let e = err_from_is_err_and c.from_residual-in_err-judge_record.result c.from_residual-in_err-judge_record.ensures.1 in
     record {
       verdict = e.1 ∙ (ap (λ (f : JudgeFault). Err f) e.2 ∙ (ap of_record c.in_err-judge_record.ensures
@@ -39,7 +39,7 @@ returns c =
     let p = parts.pattern.now in
     let s = parts.scope.now in
     let old = c.args.scratch.now in
-    let t = front c.in_ok-n.n (composed p s) old c.compose.new.out made.bytes made.long in
+    let t = front c.in_ok-n.n (composed p s) _ c.compose.new.out made.bytes made.long in
     record {
       verdict = ap of_record c.in_ok-judge_record.ensures
           ∙ sym (whole c.args.input.now (length old) p s parts.after.now c.in_ok-n.n c.in_ok-parts.ensures made.value _ t);
