@@ -1,2 +1,5 @@
 pub mod Words
+pub mod Conditions
 pub mod Refusals
+pub mod Marks
+pub mod Few

@@ -1,5 +1,4 @@
-ghost use Rattle.std.specs.Prelude.{◌≡◌, ◌<◌, Ok, Err};
-ghost use Rattle.rules.specs.declared.refusal.SettingRefusal.TheVariants.{Range};
+ghost use Rattle.std.specs.Prelude.{◌≡◌, ◌<◌};
 ghost use Rattle.rules.specs.Words.{has};
 
 use crate::refusal::SettingRefusal;
@@ -12,6 +11,8 @@ pub struct Condition {
 }
 
 impl Condition {
+    ghost use Rattle.rules.specs.Conditions.{NumbersCondition};
+
     // Condition 0, which every setting has at first.
     pub fn first() -> Condition
         ensures { result.number ≡ 0 }
@@ -20,7 +21,7 @@ impl Condition {
     }
 
     pub fn new(number: u8) -> Result<Condition, SettingRefusal>
-        ensures { elim result [ Ok c ↦ (number < 16) × (c.number ≡ number) | Err e ↦ (number < 16 → ⊥) × (e ≡ Range) ] }
+        ensures { NumbersCondition number result }
     {
         if number > 15 {
             return Err(SettingRefusal::Range);
@@ -38,5 +39,17 @@ impl Condition {
         ensures { result ≡ has self.number word }
     {
         (word >> self.number) % 2 == 1
+    }
+}
+
+impl TryFrom<u8> for Condition {
+    ghost use Rattle.rules.specs.Conditions.{NumbersCondition};
+
+    type Error = SettingRefusal;
+
+    ghost try_from_gives = { NumbersCondition };
+
+    fn try_from(number: u8) -> Result<Condition, SettingRefusal> {
+        Condition::new(number)
     }
 }

@@ -4,6 +4,7 @@
 
 pub mod condition;
 pub mod encoder;
+pub mod few;
 pub mod mark;
 pub mod pattern;
 pub mod refusal;
