@@ -1,13 +1,13 @@
 -- The mark of a word after the words before it, for each kind of scope.
-use Rattle.std.specs.Prelude.{ℕ, Bool, false, cond, not, ◌&&◌, ◌||◌, List, [], ◌∷◌}
+use Rattle.std.specs.Prelude.{ℕ, Bool, true, false, cond, not, ◌&&◌, ◌||◌, List, [], ◌∷◌}
+use Rattle.std.specs.List.{list_any}
 use Rattle.rules.specs.declared.mark.Mark.{Mark}
 use Rattle.rules.specs.declared.mark.Mark.TheVariants.{Out, In}
 use Rattle.rules.specs.Words.{has}
 
 -- some word of the list has c
 abbrev pub some_has : ℕ → List ℕ → Bool
-some_has c [] = false
-some_has c (w ∷ l) = has c w || some_has c l
+some_has c = list_any (has c)
 
 -- before r: out if w or a word before it has r, and else in
 abbrev pub before_mark : ℕ → List ℕ → ℕ → Mark
@@ -16,6 +16,16 @@ before_mark r l w = cond (some_has r l || has r w) Out In
 -- after q: in if w or a word before it has q, and else out
 abbrev pub after_mark : ℕ → List ℕ → ℕ → Mark
 after_mark q l w = cond (some_has q l || has q w) In Out
+
+-- after c, or else before it
+abbrev pub side_mark : Bool → ℕ → List ℕ → ℕ → Mark
+side_mark true = after_mark
+side_mark false = before_mark
+
+-- the same, where some word before the list has c, or none has
+abbrev pub side_mark_from : Bool → Bool → ℕ → List ℕ → ℕ → Mark
+side_mark_from true after c l w = cond after In Out
+side_mark_from false after c l w = side_mark after c l w
 
 -- the list leads inside: some word has q and not r, and no word after it has r
 abbrev pub inside : ℕ → ℕ → List ℕ → Bool

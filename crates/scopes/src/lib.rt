@@ -8,5 +8,5 @@ pub mod before;
 pub mod between;
 pub mod globally;
 pub mod laws;
-mod sighting;
-mod span;
+pub mod side;
+pub mod span;

@@ -1,23 +1,24 @@
-ghost use Rattle.std.specs.Prelude.{◌≡◌, ◌<◌, false, not, ◌&&◌, ◌||◌, if◌then◌else◌, Ok, Err};
-ghost use Rattle.rules.specs.Words.{has};
-ghost use Rattle.rules.specs.declared.mark.Mark.TheVariants.{Out, In};
-ghost use Rattle.rules.specs.declared.refusal.SettingRefusal.TheVariants.{Range};
+ghost use Rattle.std.specs.Prelude.{◌<◌};
+ghost use Rattle.rules.specs.Settings.{IsFreshScope, TakesIfFits};
+ghost use Rattle.scopes.specs.Marks.{between_mark, between_mark_from};
 
 use rules::condition::Condition;
 use rules::mark::Mark;
 use rules::refusal::SettingRefusal;
+use rules::scope::Scope;
 
-// The stretches that one condition opens and another closes, and whether the words so far lead inside one.
+// The stretches that one condition opens and another closes. UNCLOSED: whether one that nothing closes counts.
 #[derive(Clone, Copy)]
-pub struct Span {
+pub struct Span<const UNCLOSED: bool> {
     opening: Condition,
     closing: Condition,
+    // whether the words so far lead inside a stretch
     inside: bool,
 }
 
-impl Span {
-    pub fn new() -> Span
-        ensures { (result.opening.number ≡ 0) × ((result.closing.number ≡ 0) × (result.inside ≡ false)) }
+impl<const UNCLOSED: bool> Span<UNCLOSED> {
+    pub fn new() -> Span<UNCLOSED>
+        ensures { IsFreshScope ⟦<Span<UNCLOSED> as Scope>⟧ result (between_mark 0 0) UNCLOSED }
     {
         Span {
             opening: Condition::first(),
@@ -26,29 +27,36 @@ impl Span {
         }
     }
 
+    // Takes the two conditions by their numbers, and starts.
     pub fn set_conditions(&mut self, opening: u8, closing: u8) -> Result<(), SettingRefusal>
-        ensures { elim result [ Ok _ ↦ (opening < 16) × (closing < 16) × (self.new.opening.number ≡ opening) × (self.new.closing.number ≡ closing) × (self.new.inside ≡ false) | Err e ↦ ((opening < 16) × (closing < 16) → ⊥) × (e ≡ Range) × (self.new ≡ self.old) ] }
+        ensures { TakesIfFits result ((opening < 16) × (closing < 16)) self.old self.new (IsFreshScope ⟦<Span<UNCLOSED> as Scope>⟧ self.new (between_mark opening closing) UNCLOSED) }
     {
         let opening = Condition::new(opening)?;
         let closing = Condition::new(closing)?;
-        self.opening = opening;
-        self.closing = closing;
-        self.start();
+        *self = Span {
+            opening,
+            closing,
+            inside: false,
+        };
         Ok(())
     }
+}
 
-    pub fn start(&mut self)
-        ensures { (self.new.opening ≡ self.old.opening) × ((self.new.closing ≡ self.old.closing) × (self.new.inside ≡ false)) }
-    {
+impl<const UNCLOSED: bool> Scope for Span<UNCLOSED> {
+    ghost marks = { λ s. between_mark s.opening.number s.closing.number };
+
+    ghost answers = { λ s l. UNCLOSED };
+
+    ghost rest_marks = { λ s. between_mark_from s.inside s.opening.number s.closing.number };
+
+    ghost rest_answers = { λ s l. UNCLOSED };
+
+    fn start(&mut self) {
         self.inside = false;
     }
 
-    // The mark of the next word. A word that closes is out and opens nothing, whatever else it has.
-    pub fn mark(&mut self, word: u16) -> Mark
-        ensures kept { (self.new.opening ≡ self.old.opening) × (self.new.closing ≡ self.old.closing) }
-        ensures turned { self.new.inside ≡ (not (has self.old.closing.number word) && (self.old.inside || has self.old.opening.number word)) }
-        ensures given { result ≡ (if self.new.inside then In else Out) }
-    {
+    // A word that closes is out and opens nothing, whatever else it has.
+    fn mark(&mut self, word: u16) -> Mark {
         let opens = self.opening.holds(word);
         let closes = self.closing.holds(word);
         match (self.inside, opens, closes) {
@@ -63,5 +71,9 @@ impl Span {
             }
             (true, _, false) => Mark::In,
         }
+    }
+
+    fn answer(&self) -> bool {
+        UNCLOSED
     }
 }
