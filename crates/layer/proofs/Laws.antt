@@ -4,7 +4,8 @@ use mathlib.Core.Path.{fun_ext}
 use Rattle.std.proofs.lemmas.Bool.{and_parts}
 use Rattle.rules.specs.declared.mark.Mark.{Mark}
 use Rattle.rules.specs.declared.mark.Mark.TheVariants.{Out, In, Last, Anew}
-use Rattle.layer.specs.Stretches.{Open, shut, open_with, judged, opened, closed, ends_well}
+use Rattle.layer.specs.declared.over.Standing.TheVariants.{Outside}
+use Rattle.layer.specs.Stretches.{Open, shut, open_with, judged, opened, closed, ends_well, judged_from}
 use Rattle.layer.specs.Blocks.{at, each, is_out, is_in, is_last, is_anew, at_border, unbroken, ends, is_judged, part, all_accepted, marks_of, accepts_over, EveryStretch}
 
 and_true : (b : Bool) → (b && true) ≡ b
@@ -181,9 +182,5 @@ layer_law f a p ws = (
 )
 
 -- the same, as a scope and a pattern that were just started have it
-pub started : (f f' : List ℕ → ℕ → Mark) (a a' p p' : List ℕ → Bool) → f' ≡ f → a' ≡ a → p' ≡ p
-    → ◌≡◌ {A = List ℕ → Bool} (λ l. judged f' a' p' shut l) (accepts_over f a p)
-started f f' a a' p p' ef ea ep = fun_ext (λ l. (λ i. judged (ef i) (ea i) (ep i) shut l) ∙ judged_is f a p l)
-
-pub same_over : (f f' : List ℕ → ℕ → Mark) (a a' p p' : List ℕ → Bool) → f' ≡ f → a' ≡ a → p' ≡ p → accepts_over f' a' p' ≡ accepts_over f a p
-same_over f f' a a' p p' ef ea ep = λ i. accepts_over (ef i) (ea i) (ep i)
+pub started : (f f' : List ℕ → ℕ → Mark) (a a' p p' q : List ℕ → Bool) → f' ≡ f → a' ≡ a → p' ≡ p → (l : List ℕ) → judged_from Outside f' a' p' q l ≡ accepts_over f a p l
+started f f' a a' p p' q ef ea ep l = (λ i. judged (ef i) (ea i) (ep i) shut l) ∙ judged_is f a p l

@@ -1,6 +1,8 @@
 use Rattle.std.specs.Prelude.{ℕ, Bool, true, false, not, ◌&&◌, ◌||◌, List, [], ◌∷◌}
 use Rattle.rules.specs.declared.mark.Mark.{Mark}
 use Rattle.rules.specs.declared.mark.Mark.TheVariants.{Out, In, Last, Anew}
+use Rattle.layer.specs.declared.over.Standing.{Standing}
+use Rattle.layer.specs.declared.over.Standing.TheVariants.{Outside, Inside, Rejected}
 
 -- what is owed of the stretch that is open, if one is: whether it and the words to come are accepted
 pub data Open : Type 0 where
@@ -33,6 +35,21 @@ abbrev pub judged : (List ℕ → ℕ → Mark) → (List ℕ → Bool) → (Lis
 judged f a p o [] = not (a []) || ends_well o
 judged f a p o (w ∷ l) = closed (f [] w) o p w && judged (λ k v. f (w ∷ k) v) (λ k. a (w ∷ k)) p (opened (f [] w) o p w) l
 
-abbrev pub open_if : Bool → (List ℕ → Bool) → Open
-open_if true q = open_with q
-open_if false q = shut
+-- the same, as an over knows it: q is what the pattern below accepts further
+abbrev pub open_at : Standing → (List ℕ → Bool) → Open
+open_at Outside q = shut
+open_at Inside q = open_with q
+open_at Rejected q = shut
+
+-- after the stretch that is open, if one is, was closed, and the pattern below accepts it or not
+abbrev pub closed_at : Standing → Bool → Standing
+closed_at Outside accepts = Outside
+closed_at Inside true = Outside
+closed_at Inside false = Rejected
+closed_at Rejected accepts = Rejected
+
+-- what an over accepts further
+abbrev pub judged_from : Standing → (List ℕ → ℕ → Mark) → (List ℕ → Bool) → (List ℕ → Bool) → (List ℕ → Bool) → List ℕ → Bool
+judged_from Outside f a p q l = judged f a p shut l
+judged_from Inside f a p q l = judged f a p (open_with q) l
+judged_from Rejected f a p q l = false

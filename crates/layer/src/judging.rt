@@ -11,8 +11,8 @@ pub fn judge<P: Pattern>(pattern: &mut P, words: &[u16]) -> bool
     ensures kept { P.Pattern.meaning pattern.new ≡ P.Pattern.meaning pattern.old }
 {
     pattern.start();
-    for word in words {
-        pattern.read(*word);
+    for &word in words {
+        pattern.read(word);
     }
     pattern.verdict()
 }
