@@ -3,6 +3,7 @@ use Rattle.std.proofs.Common.{◌≡◌, ℕ, ◌+◌, ◌-◌, ◌*◌, ◌/◌
 use Rattle.std.specs.Result.{result_err}
 use Rattle.std.proofs.lemmas.Nat.{pow_pos, div-add-mod', div_below, mod_below}
 use Rattle.std.proofs.lemmas.List.{get_or-drop, get_or-take}
+use Rattle.std.proofs.lemmas.List.Sums.{prefix_len_is, prefix_len_passes, prefix_len_stops}
 use Rattle.std.proofs.lemmas.Bool.{ltb-true, ltb-false, lt-ltb, false≢true}
 use Rattle.std.proofs.lemmas.Bool.Decides.{nat_tests}
 use Rattle.table_format.specs.declared.kind.Kind.{Kind}
@@ -11,7 +12,6 @@ use Rattle.table_format.specs.declared.fault.TableFault.TheVariants.{Length, Sta
 use Rattle.table_format.specs.Layout.{most, target, states_of, width_of, size_of, entry_of, row_start}
 use Rattle.table_format.specs.Checked.{flag_fine, entry_fine, fine_flags, fine_entries, full_length, checked}
 use Rattle.table_format.specs.Lawful.{Lawful, Blames}
-use Rattle.table_format.proofs.Leading.{front_passes, front_stops, front_whole}
 
 pub row_within : (s n z : ℕ) → s < n → s * z + z ≤ n * z
 row_within s n z h = omega (arith, mul-le-mul_right z h, suc-mul s z)
@@ -41,13 +41,13 @@ entry_at t k h = get_or-take (states_of t * size_of t) (drop (2 + states_of t) t
 -- flags and entries up to the first bad one
 flag_fine_is : (t : List ℕ) (k : ℕ) → k < states_of t → k < fine_flags t → get_or t (1 + k) 0 ≤ 1
 flag_fine_is t k g h =
-    let e : ltb (get_or (take (states_of t) (drop 1 t)) k 0) 2 ≡ true = front_passes flag_fine (take (states_of t) (drop 1 t)) k h in
+    let e : ltb (get_or (take (states_of t) (drop 1 t)) k 0) 2 ≡ true = prefix_len_passes flag_fine (take (states_of t) (drop 1 t)) k 0 h in
     let f = ltb-true _ _ (rw (flag_at t k g) at e) in
     omega arith
 
 entry_fine_is : (kind : Kind) (t : List ℕ) (k : ℕ) → k < states_of t * size_of t → k < fine_entries kind t → target kind (get_or t (2 + states_of t + k) 0) < states_of t
 entry_fine_is kind t k g h =
-    let e : ltb (target kind (get_or (entries_of t) k 0)) (states_of t) ≡ true = front_passes (entry_fine kind (states_of t)) (entries_of t) k h in
+    let e : ltb (target kind (get_or (entries_of t) k 0)) (states_of t) ≡ true = prefix_len_passes (entry_fine kind (states_of t)) (entries_of t) k 0 h in
     ltb-true _ _ (rw (entry_at t k g) at e)
 
 pub lawful : (kind : Kind) (t : List ℕ) → is_some (checked kind t) ≡ false → Lawful kind t
@@ -72,9 +72,8 @@ all_flags : (kind : Kind) (t : List ℕ) → Lawful kind t → fine_flags t ≡ 
 all_flags kind t p =
     let flags = take (states_of t) (drop 1 t) in
     let n : length flags ≡ states_of t = simp (length-take, length-drop) (omega (arith, p.exact)) in
-    front_whole flag_fine flags (λ k h.
-    let g : k < states_of t = omega arith in
-    rw (flag_at t k g) (lt-ltb _ _ (omega (arith, p.flags k g)))) ∙ n
+    prefix_len_is flag_fine flags (states_of t) 0 (omega arith)
+    (λ k g. rw (flag_at t k g) (lt-ltb _ _ (omega (arith, p.flags k g)))) (λ h. absurd (omega arith))
 
 all_entries : (kind : Kind) (t : List ℕ) → Lawful kind t → fine_entries kind t ≡ states_of t * size_of t
 all_entries kind t p =
@@ -83,15 +82,15 @@ all_entries kind t p =
     let entries = entries_of t in
     let len : length entries ≡ n * z = simp (length-take, length-drop) (omega (arith, p.exact)) in
     let pos = pow_pos (width_of t) in
-    front_whole (entry_fine kind n) entries (λ k h.
-    let below : k < n * z = omega arith in
+    prefix_len_is (entry_fine kind n) entries (n * z) 0 (omega arith)
+    (λ k below.
     let q = k / z in
     let r = k % z in
     let whole : q * z + r ≡ k = div-add-mod' k z in
     let here : target kind (entry_of t q r) < n = p.entries q r (div_below k z n pos below) (mod_below k z pos) in
     let same : row_start t q + r ≡ 2 + n + k = omega arith in
     let there : target kind (get_or t (2 + n + k) 0) < n = rw same at here in
-    rw (entry_at t k below) (lt-ltb _ _ there)) ∙ len
+    rw (entry_at t k below) (lt-ltb _ _ there)) (λ h. absurd (omega arith))
 
 pub checked_lawful : (kind : Kind) (t : List ℕ) → Lawful kind t → is_some (checked kind t) ≡ false
 checked_lawful kind t p =
@@ -109,7 +108,7 @@ module _ (kind : Kind) (t : List ℕ) where
   blame_flag long h =
       let flags = take (states_of t) (drop 1 t) in
       let n : length flags ≡ states_of t = simp (length-take, length-drop) (omega arith) in
-      let stop : ltb (get_or flags (fine_flags t) 0) 2 ≡ false = front_stops flag_fine flags (omega arith) in
+      let stop : ltb (get_or flags (fine_flags t) 0) 2 ≡ false = prefix_len_stops flag_fine flags 0 (omega arith) in
       let bad = ltb-false _ _ (rw (flag_at t (fine_flags t) h) at stop) in
       (omega arith, omega arith, omega arith, λ k a b. let z : 1 + (k - 1) ≡ k = omega arith in rw z at (flag_fine_is t (k - 1) (omega arith) (omega arith)))
 
@@ -118,7 +117,7 @@ module _ (kind : Kind) (t : List ℕ) where
       let n = states_of t in
       let entries = entries_of t in
       let len : length entries ≡ n * size_of t = simp (length-take, length-drop) (omega arith) in
-      let stop : ltb (target kind (get_or entries (fine_entries kind t) 0)) n ≡ false = front_stops (entry_fine kind n) entries (omega arith) in
+      let stop : ltb (target kind (get_or entries (fine_entries kind t) 0)) n ≡ false = prefix_len_stops (entry_fine kind n) entries 0 (omega arith) in
       let bad = ltb-false _ _ (rw (entry_at t (fine_entries kind t) h) at stop) in
       (omega arith, omega arith, bad, λ k a b. let z : 2 + n + (k - (2 + n)) ≡ k = omega arith in rw z at (entry_fine_is kind t (k - (2 + n)) (omega arith) (omega arith)))
 

@@ -1,5 +1,9 @@
-ghost use Rattle.std.specs.Prelude.{◌≡◌};
+ghost use Rattle.std.specs.Prelude.{◌≡◌, Some};
 ghost use Rattle.table_format.specs.Faults.{fault_number, fault_place};
+ghost use Rattle.table_format.specs.Texts.{fault_text};
+
+use std::error::Error;
+use std::fmt;
 
 // Why bytes are no lawful table. A place is the offset of the byte to blame.
 #[derive(Clone, Copy, PartialEq, Eq, Debug)]
@@ -43,3 +47,23 @@ impl TableFault {
         }
     }
 }
+
+impl fmt::Display for TableFault {
+    ghost output = { λ fault. Some (fault_text fault) };
+
+    fn fmt<W: fmt::Write>(&self, f: &mut fmt::Formatter<W>) -> fmt::Result {
+        f.write_str(match self {
+            TableFault::Length => "too few or too many bytes",
+            TableFault::States => "the number of states is 0 or above the limit",
+            TableFault::Flag(_) => "a flag is neither 0 nor 1",
+            TableFault::Width(_) => "the width is above 6",
+            TableFault::Entry(_) => "an entry names no state",
+        })?;
+        match self.place() {
+            Some(place) => write!(f, ", byte {place}"),
+            None => Ok(()),
+        }
+    }
+}
+
+impl Error for TableFault {}

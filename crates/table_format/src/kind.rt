@@ -1,5 +1,8 @@
-ghost use Rattle.std.specs.Prelude.{◌≡◌};
+ghost use Rattle.std.specs.Prelude.{◌≡◌, Some};
 ghost use Rattle.table_format.specs.Layout.{most, target};
+ghost use Rattle.table_format.specs.Texts.{kind_text};
+
+use std::fmt;
 
 // A pattern table says which lists are accepted, and a scope table marks words.
 #[derive(Clone, Copy, PartialEq, Eq, Debug)]
@@ -27,5 +30,16 @@ impl Kind {
             Kind::Pattern => entry,
             Kind::Scope => entry % 64,
         }
+    }
+}
+
+impl fmt::Display for Kind {
+    ghost output = { λ kind. Some (kind_text kind) };
+
+    fn fmt<W: fmt::Write>(&self, f: &mut fmt::Formatter<W>) -> fmt::Result {
+        f.write_str(match self {
+            Kind::Pattern => "pattern table",
+            Kind::Scope => "scope table",
+        })
     }
 }
