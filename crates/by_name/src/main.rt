@@ -73,10 +73,6 @@ static NAMED: [(&str, NamedPattern); 10] = [
     ),
 ];
 
-fn yes_or_no(kept: bool) -> &'static str {
-    if kept { "yes" } else { "no" }
-}
-
 fn main(rt: HostRuntime) -> io::Result<()> {
     // That the patterns agree with their formulas is proved with this call; it has nothing to do.
     let _ = formulas_stand();
@@ -84,7 +80,8 @@ fn main(rt: HostRuntime) -> io::Result<()> {
     println!(rt; "By name, on {words:?}")?;
     for (name, pattern) in NAMED.iter() {
         match judge_named(*pattern, &words) {
-            Ok(kept) => println!(rt; "  {name}: {}", yes_or_no(kept))?,
+            Ok(true) => println!(rt; "  {name}: yes")?,
+            Ok(false) => println!(rt; "  {name}: no")?,
             Err(refusal) => println!(rt; "  {name}: refused with {}", refusal.number())?,
         }
     }

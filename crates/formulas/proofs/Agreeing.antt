@@ -1,5 +1,6 @@
 -- The named patterns accept what the tests of their formulas pass.
 use Rattle.std.proofs.Common.{◌≡◌, ℕ, Bool, true, false, cond, not, ◌&&◌, ◌||◌, List, [], ◌∷◌, sym, refl, ap, ◌∙◌, ap₂, ⊎_elim}
+use Rattle.std.proofs.Math.Bool.{or_comm}
 use Rattle.std.proofs.lemmas.Bool.{and_parts, or_cases}
 use Rattle.std.proofs.lemmas.Bool.Decides.{Decides-at}
 use Rattle.rules.specs.Words.{has}
@@ -93,12 +94,6 @@ nowhere_is s (w ∷ l) = ap (λ b. not (has s w) && b) (nowhere_is s l) ∙ neit
 
 precedes_is : (p s : ℕ) (l : List ℕ) → precedes (p ∷ []) (s ∷ []) l ≡ test_of (~ is s W is p) l
 precedes_is p s l = sym (unless_or (test_of (~ is s)) (test_of (is p)) l ∙ ap₂ ◌||◌ (one_until s p l) (nowhere_is s l) ∙ or_comm (occurs (p ∷ []) (up_to s l)) (not (occurs (s ∷ []) l)))
-  where
-    or_comm : (a b : Bool) → (a || b) ≡ (b || a)
-    or_comm true true = refl
-    or_comm true false = refl
-    or_comm false true = refl
-    or_comm false false = refl
 
 pair_precedes_is : (p q s : ℕ) (l : List ℕ) → precedes (p ∷ q ∷ []) (s ∷ []) l ≡ test_of (formula_of (PairPrecedes p q s)) l
 pair_precedes_is p q s l = sym (ap₂ (λ a b. not a || b) (one_is s l) (pair_until s p q l))

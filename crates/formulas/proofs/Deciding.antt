@@ -1,5 +1,6 @@
 -- The test of a formula, on what is left of a list from a place on, decides whether the formula holds there.
 use Rattle.std.proofs.Common.{◌≡◌, ℕ, zero, suc, ◌+◌, ◌<◌, ◌≤◌, Bool, true, false, not, ◌&&◌, ◌||◌, ◌⊎◌, List, [], ◌∷◌, length, get_or, drop, Decides, sym, refl, ap, ◌∙◌, subst, inl, inr, ⊎_elim, arith, length-drop, drop-cons}
+use Rattle.std.proofs.Math.Bool.{or_assoc, and-or_distrib_left}
 use Rattle.std.proofs.lemmas.List.{drop_all}
 use Rattle.std.proofs.lemmas.Bool.{both_ways, cases_lt}
 use Rattle.std.proofs.lemmas.Bool.Decides.{Decides-at, Decides-like, Decides-not, Decides-and, Decides-or}
@@ -19,9 +20,7 @@ unless_or s t [] = refl
 unless_or s t (w ∷ l) = ap (λ b. t (w ∷ l) || (s (w ∷ l) && b)) (unless_or s t l) ∙ spread (t (w ∷ l)) (s (w ∷ l)) (until s t l) (throughout s l)
   where
     spread : (a b x y : Bool) → (a || (b && (x || y))) ≡ ((a || (b && x)) || (b && y))
-    spread true b x y = refl
-    spread false true x y = refl
-    spread false false x y = refl
+    spread a b x y = ap (λ c. a || c) (and-or_distrib_left b x y) ∙ sym (or_assoc a (b && x) (b && y))
 
 -- eventually is until, from anywhere
 somewhere_until : (t : Test) (l : List ℕ) → somewhere t l ≡ until (λ _. true) t l

@@ -1,38 +1,43 @@
--- From what the patterns' calls promise to the verdict of a named pattern.
-use Rattle.std.proofs.Common.{◌≡◌, ℕ, Bool, true, false, ◌&&◌, ltb, List, [], ◌∷◌, ◌++◌, IfOk, Ok, Decides, Result, sym, refl, ap, ◌∙◌}
+-- From what setting a pattern up and judging by it promise to the verdict of a named pattern.
+use Rattle.std.proofs.Common.{◌≡◌, ℕ, Bool, true, false, ◌&&◌, ltb, ◌<◌, List, [], ◌∷◌, ◌++◌, IfOk, MatchResult, Ok, Err, Decides, Result, sym, refl, ap, ◌∙◌}
+use Rattle.std.proofs.Math.Bool.{and-true, and_assoc}
+use Rattle.std.proofs.lemmas.Bool.Decides.{Decides-at, Decides-ltb}
 use Rattle.rules.specs.declared.refusal.SettingRefusal.{SettingRefusal}
 use Rattle.chains.specs.Chains.{numbered}
+use Rattle.kinds.specs.SetUp.{SetUp}
 use Rattle.formulas.specs.declared.named.NamedPattern.{NamedPattern}
 use Rattle.formulas.specs.Formulas.{Satisfies}
 use Rattle.formulas.specs.Named.{meaning_of, formula_of, conditions_of, judged, judged_if}
 use Rattle.formulas.proofs.Agreeing.{agreement}
 
--- a pattern that is set to accept by F accepts these words, or not, by F
-pub by_setting : {taken b : Bool} {G F : List ℕ → Bool} (l : List ℕ) → taken ≡ true → b ≡ G l → G ≡ F → Ok b ≡ judged_if taken (F l)
-by_setting l e v m = rw e (ap Ok (v ∙ ap (λ (f : List ℕ → Bool). f l) m))
+pub alone : (c : ℕ) → Decides (numbered (c ∷ [])) (c < 16)
+alone c = Decides-at _ (ltb c 16) (and-true (ltb c 16)) (Decides-ltb c 16)
 
 -- the conditions of two chains are all numbers where those of each are
-pub joined : (a b : List ℕ) → numbered a && numbered b ≡ numbered (a ++ b)
-joined [] b = refl
-joined (c ∷ a) b = and_assoc (ltb c 16) (numbered a) (numbered b) ∙ ap (λ x. ltb c 16 && x) (joined a b)
+pub joined : (a b : List ℕ) → Decides (numbered (a ++ b)) (numbered a && numbered b ≡ true)
+joined a b = (λ e. both a b ∙ e, λ e. sym (both a b) ∙ e)
   where
-    and_assoc : (x y z : Bool) → (x && y) && z ≡ x && (y && z)
-    and_assoc true y z = refl
-    and_assoc false y z = refl
-
-pub alone : (c : ℕ) → ltb c 16 ≡ numbered (c ∷ [])
-alone c = and_true (ltb c 16)
-  where
-    and_true : (x : Bool) → x ≡ (x && true)
-    and_true true = refl
-    and_true false = refl
+    both : (a b : List ℕ) → numbered a && numbered b ≡ numbered (a ++ b)
+    both [] b = refl
+    both (c ∷ a) b = and_assoc (ltb c 16) (numbered a) (numbered b) ∙ ap (λ x. ltb c 16 && x) (both a b)
 
 -- what is judged by the meaning of the pattern m is judged by its formula too
-pub settled : {n m : NamedPattern} {taken : Bool} (l : List ℕ) (r : Result Bool SettingRefusal) → n ≡ m → taken ≡ numbered (conditions_of m) → r ≡ judged_if taken (meaning_of m l) → (r ≡ judged n l) × IfOk r (λ b. Decides b (Satisfies (formula_of n) l))
-settled {n} {m} l r e t v = (value, by_formula)
+pub settled :
+    {n m : NamedPattern} {K in_range : Type 0} (reads : K → List ℕ → Bool) (l : List ℕ) (s : Result K SettingRefusal) (r : Result Bool SettingRefusal)
+    → n ≡ m
+    → Decides (numbered (conditions_of m)) in_range
+    → SetUp s in_range (λ x. reads x ≡ meaning_of m)
+    → MatchResult s (λ p. r ≡ Ok (reads p l)) (λ e. r ≡ Err e)
+    → (r ≡ judged n l) × IfOk r (λ b. Decides b (Satisfies (formula_of n) l))
+settled {n} {m} {K} {in_range} reads l s r e t u v = (value, by_formula)
   where
+    taken : (b : Bool) → Decides b in_range → (s : Result K SettingRefusal) → SetUp s in_range (λ x. reads x ≡ meaning_of m) → MatchResult s (λ p. r ≡ Ok (reads p l)) (λ e. r ≡ Err e) → r ≡ judged_if b (meaning_of m l)
+    taken b t (Ok p) u v = rw (t.1 u.0) (v ∙ ap (λ f. Ok (f l)) u.1)
+    taken true t (Err e) u v = absurd (u.0 (t.0 refl))
+    taken false t (Err e) u v = v ∙ ap Err u.1
+
     value : r ≡ judged n l
-    value = v ∙ ap (λ b. judged_if b (meaning_of m l)) t ∙ sym (ap (λ x. judged x l) e)
+    value = taken (numbered (conditions_of m)) t s u v ∙ sym (ap (λ x. judged x l) e)
 
     go : (b : Bool) → IfOk (judged_if b (meaning_of n l)) (λ b. Decides b (Satisfies (formula_of n) l))
     go true = agreement n l
