@@ -1,4 +1,3 @@
-pub mod Fitting
 pub mod Numbering
 pub mod Adding
 pub mod Plain

@@ -1,7 +1,8 @@
 -- The number that a list of bits makes.
-use Rattle.std.proofs.Common.{◌≡◌, ℕ, ◌+◌, ◌-◌, ◌*◌, ◌^◌, ◌<◌, ◌≤◌, Bool, true, false, cond, List, [], ◌∷◌, map, length, get_or, drop, sym, refl, ap, ◌∙◌, pow-suc, arith, pow_mono}
+use Rattle.std.proofs.Common.{◌≡◌, ℕ, ◌+◌, ◌*◌, ◌^◌, ◌<◌, ◌≤◌, Bool, true, false, cond, List, [], ◌∷◌, ◌++◌, map, length, sym, refl, ap, ◌∙◌, pow-suc, arith, pow_mono, length-append, append_assoc, append-nil}
 use mir.Val.{bool_byte}
-use Rattle.std.proofs.lemmas.List.{drop_more, at_drop_all, get_or-map, length-map, length-drop}
+use Rattle.std.specs.List.{push}
+use Rattle.std.proofs.lemmas.List.{length-map}
 use Rattle.encoders.specs.Holding.{number}
 
 bit_small : (b : Bool) → cond b 1 0 ≤ 1
@@ -21,29 +22,29 @@ pub number_below : (bs : List Bool) → number bs < 2 ^ length bs
 number_below [] = omega arith
 number_below (b ∷ bs) = rw pow-suc (omega (arith, number_below bs, bit_small b))
 
-number_short : (bs : List Bool) → length bs ≤ 15 → number bs < 32768
-number_short bs h = let p : 2 ^ length bs ≤ 2 ^ 15 = pow_mono h in omega (arith, number_below bs)
+-- the items behind those that are left make the bits
+abbrev pub MadeBehind : {X Y : Type 0} → (Y → Bool) → (X → Y) → List X → List X → ℕ → Type 0
+MadeBehind {X = X} f g all left bits = (behind : List X) × (all ≡ left ++ behind) × (bits ≡ number (map f (map g behind)))
 
--- a loop from the highest condition down, over the conditions' lists of terms
-module _ {X Y : Type 0} (f : Y → Bool) (g : X → Y) (xs : List X) where
-  many : length (map f (map g xs)) ≡ length xs
-  many = length-map (map g xs) f ∙ length-map xs g
+-- a loop that goes over all items from behind
+module _ {X Y : Type 0} (f : Y → Bool) (g : X → Y) (all : List X) where
+  pub none_behind : (left : List X) → left ≡ all → MadeBehind f g all left 0
+  none_behind left e = ([], sym e ∙ sym (append-nil left), refl)
 
-  pub number_room : (i w : ℕ) → length xs ≡ 16 → 0 < i → w ≡ number (drop i (map f (map g xs))) → w < 32768
-  number_room i w n h e = omega (arith, number_short (drop i (map f (map g xs))) (omega (arith, length-drop i (map f (map g xs)), many)))
+  pub room_behind : (left rest : List X) (x : X) (bits : ℕ) → length all ≡ 16 → left ≡ push rest x → MadeBehind f g all left bits → bits < 32768
+  room_behind left rest x bits n e (behind, a, is) =
+      let m : length left ≡ length rest + 1 = ap length e ∙ length-append rest (x ∷ []) in
+      let k : length behind ≤ 15 = omega (arith, ap length a, length-append left behind) in
+      let p : 2 ^ length behind ≤ 2 ^ 15 = pow_mono k in
+      omega (arith, number_below (map f (map g behind)), ap (λ n. 2 ^ n) (length-map (map g behind) f ∙ length-map behind g))
 
-  bit_at : (k : ℕ) (d : X) → k < length xs → get_or (map f (map g xs)) k false ≡ f (g (get_or xs k d))
-  bit_at k d lt = get_or-map f (map g xs) k (g d) false (omega (arith, length-map xs g)) ∙ ap f (get_or-map g xs k d (g d) lt)
+  pub more_behind : (left rest : List X) (x : X) (bits v : ℕ) (b : Bool) → left ≡ push rest x → b ≡ f (g x) → v ≡ bool_byte b → MadeBehind f g all left bits → MadeBehind f g all rest (2 * bits + v)
+  more_behind left rest x bits v b e fits is (behind, a, made) = (
+    x ∷ behind,
+    a ∙ ap (λ l. l ++ behind) e ∙ append_assoc rest (x ∷ []) behind,
+    omega (arith, made, is, byte_bit b, ap {B = ℕ} (λ c. cond c 1 0) fits),
+  )
 
-  number_at : (k : ℕ) (d : X) (b : Bool) → k < length xs → b ≡ f (g (get_or xs k d)) → number (drop k (map f (map g xs))) ≡ cond b 1 0 + 2 * number (drop (k + 1) (map f (map g xs)))
-  number_at k d b lt fits =
-      ap number (drop_more (map f (map g xs)) k false (omega (arith, many)))
-      ∙ ap (λ t. cond t 1 0 + 2 * number (drop (k + 1) (map f (map g xs)))) (bit_at k d lt ∙ sym fits)
-
-  pub number_more : (i w v : ℕ) (d : X) (b : Bool) → 0 < i → i ≤ length xs → w ≡ number (drop i (map f (map g xs))) → b ≡ f (g (get_or xs (i - 1) d)) → v ≡ bool_byte b → 2 * w + v ≡ number (drop (i - 1) (map f (map g xs)))
-  number_more i w v d b h le e fits is =
-      let same : number (drop (i - 1 + 1) (map f (map g xs))) ≡ number (drop i (map f (map g xs))) = ap (λ n. number (drop n (map f (map g xs)))) (omega arith) in
-      omega (arith, number_at (i - 1) d b (omega arith) fits, same, byte_bit b)
-
-  pub number_none : (i : ℕ) → length xs ≤ i → 0 ≡ number (drop i (map f (map g xs)))
-  number_none i h = sym (at_drop_all number (map f (map g xs)) i (omega (arith, many)))
+  pub all_behind : (left : List X) (bits : ℕ) → length left ≡ 0 → MadeBehind f g all left bits → bits ≡ number (map f (map g all))
+  all_behind [] bits n (behind, a, made) = made ∙ ap (λ l. number (map f (map g l))) (sym a)
+  all_behind (x ∷ left) bits n h = absurd (omega arith)

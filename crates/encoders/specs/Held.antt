@@ -1,16 +1,17 @@
 -- The terms that a value holds.
 use Rattle.std.specs.Prelude.{ℕ, List, map, take, ℤ}
+use Rattle.rules.specs.declared.few.Few.{Few}
+use Rattle.rules.specs.Few.{items_of}
 use Rattle.encoders.specs.declared.conditions.Conditions.{Conditions}
 use Rattle.encoders.specs.declared.contacts.Contacts.{Contacts}
 use Rattle.encoders.specs.declared.contacts.term.ContactTerm.{ContactTerm}
 use Rattle.encoders.specs.declared.letters.Letters.{Letters}
 use Rattle.encoders.specs.declared.moisture.Moisture.{Moisture}
 use Rattle.encoders.specs.declared.moisture.term.EventTerm.{EventTerm}
-use Rattle.encoders.specs.declared.terms.Terms.{Terms}
 
 -- the terms of one condition, in the order in which they were added
-abbrev pub terms_of : {T : Type 0} → Terms T → List T
-terms_of l = take l.count l.places
+abbrev pub terms_of : {T : Type 0} → Few T 8 → List T
+terms_of = items_of
 
 -- those of each condition, from condition 0 on
 abbrev pub lists_of : {T : Type 0} → Conditions T → List (List T)

@@ -1,12 +1,8 @@
 -- When a condition holds, and the word of conditions.
 use Rattle.std.specs.Prelude.{ℕ, ◌+◌, ◌*◌, Bool, false, cond, ◌||◌, List, [], ◌∷◌, ◌++◌, map, length, replicate, Some, None, Option, nat_le, nat_lt, slice_index_or, slice_set}
+use Rattle.std.specs.List.{list_any}
 use Rattle.rules.specs.declared.refusal.SettingRefusal.{SettingRefusal}
 use Rattle.rules.specs.declared.refusal.SettingRefusal.TheVariants.{Range, Term, Full}
-
--- at least one of them fits; none of no terms does
-abbrev pub some : {A : Type 0} → (A → Bool) → List A → Bool
-some fits [] = false
-some fits (t ∷ ts) = fits t || some fits ts
 
 -- the number whose bits these are, the lowest first
 abbrev pub number : List Bool → ℕ
@@ -15,7 +11,7 @@ number (b ∷ bs) = cond b 1 0 + 2 * number bs
 
 -- the word of a sample, where each condition has its list of terms and `fits` says which of them fit: bit i is condition i
 abbrev pub word : {A : Type 0} → (A → Bool) → List (List A) → ℕ
-word fits lists = number (map (some fits) lists)
+word fits lists = number (map (list_any fits) lists)
 
 -- there is room for no more: a condition has at most eight terms
 abbrev pub full : {A : Type 0} → List A → Bool

@@ -8,5 +8,4 @@ pub mod laws;
 pub mod letters;
 pub mod moisture;
 mod term;
-mod terms;
 mod width;

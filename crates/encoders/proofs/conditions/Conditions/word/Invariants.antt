@@ -1,8 +1,9 @@
-use Rattle.std.proofs.Common.{◌≡◌, map, drop}
-use Rattle.encoders.specs.Holding.{some, number}
-use Rattle.encoders.specs.Held.{lists_of}
+use Rattle.std.proofs.Common.{◌≡◌}
+use Rattle.std.specs.List.{list_any}
+use Rattle.encoders.specs.Held.{terms_of}
+use Rattle.encoders.proofs.Numbering.{MadeBehind}
 use Rattle.encoders.proofs.conditions.Conditions.word.Given as goal
 
--- the number of the conditions from i on
-abbrev pub invariant-loop-i : goal.invariant-loop-i
-invariant-loop-i g l = l.bits ≡ number (drop l.i (map (some (λ t. g.T.Term.fits t l.sample)) (lists_of l.self)))
+-- the bits are the word of the conditions that were asked, which stand behind those that are left
+abbrev pub invariant-loop-terms : goal.invariant-loop-terms
+invariant-loop-terms g l = MadeBehind (list_any (λ t. g.T.Term.fits t l.sample)) terms_of l.self.lists l.terms-iterator.iter.rest.now l.bits
