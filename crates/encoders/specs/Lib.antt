@@ -3,4 +3,5 @@ pub mod Contact
 pub mod Event
 pub mod Letter
 pub mod Held
+pub mod Settings
 pub mod Laws

@@ -2,10 +2,9 @@ pub mod coding;
 
 ghost use Rattle.std.specs.Prelude.{◌≡◌, MatchResult};
 ghost use Rattle.std.specs.Result.{result_err};
-ghost use Rattle.encoders.specs.Letter.{letter_codes, width_refused};
+ghost use Rattle.encoders.specs.Letter.{width_refused};
 
 use crate::width::Width;
-use rules::encoder::Encoder;
 use rules::refusal::SettingRefusal;
 
 // Samples of one byte that is the word itself: a letter of the alphabet of a table of that width.
@@ -15,11 +14,11 @@ pub struct Letters {
 }
 
 impl Letters {
-    ghost use Rattle.encoders.specs.Held.{width_of};
+    ghost use Rattle.encoders.specs.Settings.{HasWidth};
 
     // Of width 0, with the one letter 0.
     pub fn new() -> Letters
-        ensures { (width_of result ≡ 0) × (⟦<Letters as Encoder>⟧.codes result ≡ letter_codes 0) × (⟦<Letters as Encoder>⟧.size result ≡ 1) }
+        ensures { HasWidth result 0 }
     {
         Letters {
             width: Width::new(0),
@@ -29,7 +28,7 @@ impl Letters {
     // Sets the width, 0 to 6.
     pub fn set_width(&mut self, width: u8) -> Result<(), SettingRefusal>
         ensures result { result_err result ≡ width_refused width }
-        ensures after { MatchResult result (λ _. (width_of self.new ≡ width) × (⟦<Letters as Encoder>⟧.codes self.new ≡ letter_codes width) × (⟦<Letters as Encoder>⟧.size self.new ≡ 1)) (λ _. self.new ≡ self.old) }
+        ensures after { MatchResult result (λ _. HasWidth self.new width) (λ _. self.new ≡ self.old) }
     {
         if width > 6 {
             return Err(SettingRefusal::Range);

@@ -5,13 +5,12 @@ mod term;
 
 ghost use Rattle.std.specs.Prelude.{◌≡◌, MatchResult};
 ghost use Rattle.std.specs.Result.{result_err};
-ghost use Rattle.encoders.specs.Event.{event_codes, event_fair};
+ghost use Rattle.encoders.specs.Event.{event_fair};
 ghost use Rattle.encoders.specs.Holding.{no_terms, with_term, term_refused};
 
 use crate::conditions::Conditions;
 use crate::moisture::term::EventTerm;
 use rules::condition::Condition;
-use rules::encoder::Encoder;
 use rules::refusal::SettingRefusal;
 
 // Samples of three bytes, each a moisture event: its code, and how far the moisture is from the one set.
@@ -22,11 +21,11 @@ pub struct Moisture {
 
 impl Moisture {
     ghost use Rattle.encoders.specs.Held.{event_terms};
+    ghost use Rattle.encoders.specs.Settings.{HasEvents};
 
     // No terms.
     pub fn new() -> Moisture
-        ensures holds { event_terms result ≡ no_terms }
-        ensures codes { (⟦<Moisture as Encoder>⟧.codes result ≡ event_codes no_terms) × (⟦<Moisture as Encoder>⟧.size result ≡ 3) }
+        ensures { HasEvents result no_terms }
     {
         Moisture {
             conditions: Conditions::none(),
@@ -42,7 +41,7 @@ impl Moisture {
         high: i32,
     ) -> Result<(), SettingRefusal>
         ensures result { result_err result ≡ term_refused (event_fair low high) condition (event_terms self.old) }
-        ensures after { MatchResult result (λ _. (event_terms self.new ≡ with_term condition (code, low, high) (event_terms self.old)) × (⟦<Moisture as Encoder>⟧.codes self.new ≡ event_codes (with_term condition (code, low, high) (event_terms self.old))) × (⟦<Moisture as Encoder>⟧.size self.new ≡ 3)) (λ _. self.new ≡ self.old) }
+        ensures after { MatchResult result (λ _. HasEvents self.new (with_term condition (code, low, high) (event_terms self.old))) (λ _. self.new ≡ self.old) }
     {
         let condition = Condition::new(condition)?;
         let term = EventTerm::new(code, low, high)?;

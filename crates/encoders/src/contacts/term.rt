@@ -1,4 +1,4 @@
-ghost use Rattle.std.specs.Prelude.{◌≡◌, Ok, Err, ◌≢◌, bit_and};
+ghost use Rattle.std.specs.Prelude.{◌≡◌, MatchResult, ◌≢◌, bit_and};
 ghost use Rattle.rules.specs.declared.refusal.SettingRefusal.TheVariants.{Term as Unfit};
 ghost use Rattle.encoders.specs.Contact.{contact_fits};
 
@@ -15,7 +15,7 @@ pub struct ContactTerm {
 
 impl ContactTerm {
     pub fn new(care: u8, want: u8) -> Result<ContactTerm, SettingRefusal>
-        ensures { elim result [ Ok t ↦ (bit_and want care ≡ want) × (t.care ≡ care) × (t.want ≡ want) | Err e ↦ (bit_and want care ≢ want) × (e ≡ Unfit) ] }
+        ensures { MatchResult result (λ t. (bit_and want care ≡ want) × (t.care ≡ care) × (t.want ≡ want)) (λ e. (bit_and want care ≢ want) × (e ≡ Unfit)) }
     {
         if want & care != want {
             return Err(SettingRefusal::Term);

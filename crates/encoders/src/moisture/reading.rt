@@ -1,8 +1,8 @@
-ghost use Rattle.std.specs.Prelude.{◌≡◌, true, false, pos, Some, None, int_le};
+ghost use Rattle.std.specs.Prelude.{◌≡◌, true, false, pos, MatchOption};
 ghost use Rattle.encoders.specs.Event.{readable};
 
 // How far the moisture is off its set value, in hundredths of a point: at most a hundred points either way.
-#[derive(Clone, Copy)]
+#[derive(Clone, Copy, PartialEq, Eq, PartialOrd, Ord)]
 pub struct Reading {
     hundredths: i16,
     ghost near: { readable hundredths ≡ true },
@@ -19,19 +19,13 @@ impl Reading {
     }
 
     pub fn new(hundredths: i32) -> Option<Reading>
-        ensures { elim result [ Some x ↦ (readable hundredths ≡ true) × (x.hundredths ≡ hundredths) | None ↦ readable hundredths ≡ false ] }
+        ensures { MatchOption result (readable hundredths ≡ false) (λ x. (readable hundredths ≡ true) × (x.hundredths ≡ hundredths)) }
     {
-        if hundredths < -MOST || hundredths > MOST {
+        if !(-MOST..=MOST).contains(&hundredths) {
             return None;
         }
         Some(Reading {
             hundredths: hundredths as i16,
         })
-    }
-
-    pub fn at_most(self, other: Reading) -> bool
-        ensures { result ≡ int_le self.hundredths other.hundredths }
-    {
-        self.hundredths <= other.hundredths
     }
 }

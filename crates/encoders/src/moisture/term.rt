@@ -1,4 +1,4 @@
-ghost use Rattle.std.specs.Prelude.{◌≡◌, true, false, Ok, Err, int_le};
+ghost use Rattle.std.specs.Prelude.{◌≡◌, true, false, MatchResult, int_le};
 ghost use Rattle.rules.specs.declared.refusal.SettingRefusal.TheVariants.{Term as Unfit};
 ghost use Rattle.encoders.specs.Event.{event_fits, event_fair};
 
@@ -18,15 +18,11 @@ pub struct EventTerm {
 
 impl EventTerm {
     pub fn new(code: u8, low: i32, high: i32) -> Result<EventTerm, SettingRefusal>
-        ensures { elim result [ Ok t ↦ (event_fair low high ≡ true) × (t.code ≡ code) × (t.low.hundredths ≡ low) × (t.high.hundredths ≡ high) | Err e ↦ (event_fair low high ≡ false) × (e ≡ Unfit) ] }
+        ensures { MatchResult result (λ t. (event_fair low high ≡ true) × (t.code ≡ code) × (t.low.hundredths ≡ low) × (t.high.hundredths ≡ high)) (λ e. (event_fair low high ≡ false) × (e ≡ Unfit)) }
     {
-        let Some(low) = Reading::new(low) else {
-            return Err(SettingRefusal::Term);
-        };
-        let Some(high) = Reading::new(high) else {
-            return Err(SettingRefusal::Term);
-        };
-        if !low.at_most(high) {
+        let low = Reading::new(low).ok_or(SettingRefusal::Term)?;
+        let high = Reading::new(high).ok_or(SettingRefusal::Term)?;
+        if low > high {
             return Err(SettingRefusal::Term);
         }
         Ok(EventTerm { code, low, high })
@@ -47,8 +43,6 @@ impl Term for EventTerm {
     }
 
     fn fits(&self, sample: Event) -> bool {
-        sample.code == self.code
-            && self.low.at_most(sample.reading)
-            && sample.reading.at_most(self.high)
+        sample.code == self.code && self.low <= sample.reading && sample.reading <= self.high
     }
 }
