@@ -2,7 +2,7 @@
 use Rattle.std.specs.Prelude.{◌≡◌, ℕ, ◌<◌, true, false, List, [], ◌∷◌, length, Decides, ◌≢◌, slice_index}
 use Rattle.rules.specs.Words.{has}
 use Rattle.patterns.specs.declared.form.Form.TheVariants.{Exactly, AtLeast, AtMost}
-use Rattle.patterns.specs.Places.{always, never, eventually, precisely}
+use Rattle.patterns.specs.Places.{always, never, eventually, precisely, counted}
 
 -- always: exactly the lists of which every place has c
 abbrev pub AlwaysByPlaces : Type 0
@@ -13,6 +13,10 @@ AlwaysByPlaces =
 abbrev pub NeverByPlaces : Type 0
 NeverByPlaces =
     (c : ℕ) (l : List ℕ) → Decides (never c l) ((k : ℕ) → k < length l → has c (slice_index l k) ≢ true)
+
+-- the two kinds of counts are these
+abbrev pub Kinds : Type 0
+Kinds = (counted true ≡ eventually) × (counted false ≡ precisely)
 
 -- condition 0 stands at three places of 1, 1, 0, 1, and comes up at two of them
 abbrev pub Counted : Type 0

@@ -1,21 +1,22 @@
 -- What each pattern accepts, by the places of the list, which count from 0.
-use Rattle.std.specs.Prelude.{ℕ, zero, suc, ◌+◌, Bool, true, cond, not, ◌&&◌, List, [], ◌∷◌, length, slice_index}
+use Rattle.std.specs.Prelude.{ℕ, zero, suc, ◌+◌, Bool, true, false, cond, not, ◌&&◌, List, length, slice_index}
+use Rattle.std.specs.List.{list_all}
 use Rattle.rules.specs.Words.{has}
 use Rattle.patterns.specs.declared.form.Form.{Form}
 use Rattle.patterns.specs.Forms.{suits}
 
--- every word passes the test
-abbrev pub every : (ℕ → Bool) → List ℕ → Bool
-every test [] = true
-every test (w ∷ l) = test w && every test l
-
 -- every word has c
 abbrev pub always : ℕ → List ℕ → Bool
-always c = every (has c)
+always c = list_all (has c)
 
 -- no word has c
 abbrev pub never : ℕ → List ℕ → Bool
-never c = every (λ w. not (has c w))
+never c = list_all (λ w. not (has c w))
+
+-- every word has c, or else none
+abbrev pub throughout : Bool → ℕ → List ℕ → Bool
+throughout true = always
+throughout false = never
 
 -- how many places below n pass the test: place 0, and those after it
 abbrev pub how_many : (ℕ → Bool) → ℕ → ℕ
@@ -38,3 +39,12 @@ eventually form c t l = suits form t (how_many (comes_up c l) (length l))
 -- the places that have c are as many as the form asks of t
 abbrev pub precisely : Form → ℕ → ℕ → List ℕ → Bool
 precisely form c t l = suits form t (how_many (stands c l) (length l))
+
+-- place k counts: c comes up there, or else it has c
+abbrev pub counts_at : Bool → ℕ → List ℕ → ℕ → Bool
+counts_at true = comes_up
+counts_at false = stands
+
+-- the places that count are as many as the form asks of t
+abbrev pub counted : Bool → Form → ℕ → ℕ → List ℕ → Bool
+counted rises form c t l = suits form t (how_many (counts_at rises c l) (length l))

@@ -1,8 +1,8 @@
--- Where a condition comes up, word by word.
+-- Which words count, word by word.
 use Rattle.std.specs.Prelude.{ℕ, ◌+◌, Bool, cond, not, ◌&&◌, List, [], ◌∷◌}
 use Rattle.rules.specs.Words.{has}
 
--- how often c comes up in a list, where the word before the list has c or not
-abbrev pub rises : ℕ → Bool → List ℕ → ℕ
-rises c before [] = 0
-rises c before (w ∷ l) = cond (has c w && not before) 1 0 + rises c (has c w) l
+-- how many words of a list have c; of rises, only those whose word before has it not, the word before the list too
+abbrev pub counts : Bool → ℕ → Bool → List ℕ → ℕ
+counts rises c before [] = 0
+counts rises c before (w ∷ l) = cond (has c w && not (rises && before)) 1 0 + counts rises c (has c w) l

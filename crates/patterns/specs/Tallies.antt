@@ -1,10 +1,9 @@
 -- What the counting patterns are set to, and how far they have counted.
-use Rattle.std.specs.Prelude.{◌≡◌, ℕ, ◌+◌, Bool, List, length}
+use Rattle.std.specs.Prelude.{◌≡◌, ℕ, ◌+◌, Bool, List}
 use Rattle.patterns.specs.declared.form.Form.{Form}
 use Rattle.patterns.specs.declared.tally.Tally.{Tally}
 use Rattle.patterns.specs.Forms.{suits}
-use Rattle.patterns.specs.Places.{how_many, stands}
-use Rattle.patterns.specs.Steps.{rises}
+use Rattle.patterns.specs.Steps.{counts}
 
 -- it counts for condition c, by this form of t times
 abbrev pub Set : Tally → Form → ℕ → ℕ → Type 0
@@ -22,11 +21,7 @@ set_as pattern y = pattern y.quota.form y.condition.number y.quota.times
 abbrev pub enough : Tally → ℕ → Bool
 enough y n = suits y.quota.form y.quota.times (y.counter.count + n)
 
--- with the words to come, the places where the condition comes up are as many as asked; before: whether the
--- last word so far has it
-abbrev pub eventually_rest : Tally → Bool → List ℕ → Bool
-eventually_rest y before l = enough y (rises y.condition.number before l)
-
--- with the words to come, the places that have the condition are as many as asked
-abbrev pub precisely_rest : Tally → List ℕ → Bool
-precisely_rest y l = enough y (how_many (stands y.condition.number l) (length l))
+-- with the words to come, the places that count are as many as asked; before: whether the last word so far has
+-- the condition
+abbrev pub counted_rest : Bool → Tally → Bool → List ℕ → Bool
+counted_rest rises y before l = enough y (counts rises y.condition.number before l)

@@ -21,12 +21,8 @@ impl Counter {
     pub fn add(self, counts: bool) -> Counter
         ensures { result.count ≡ min (self.count + (if counts then 1 else 0)) 65536 }
     {
-        if counts & (self.count < Self::CAP) {
-            Counter {
-                count: self.count + 1,
-            }
-        } else {
-            self
+        Counter {
+            count: (self.count + u32::from(counts)).min(Self::CAP),
         }
     }
 

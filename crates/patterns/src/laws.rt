@@ -1,9 +1,10 @@
 ghost use Rattle.std.specs.Prelude.{◌≡◌};
-ghost use Rattle.patterns.specs.Laws.{AlwaysByPlaces, NeverByPlaces, Counted, Empty, Plain};
+ghost use Rattle.patterns.specs.Laws.{AlwaysByPlaces, NeverByPlaces, Kinds, Counted, Empty, Plain};
 
 // The plain patterns by places, and computed examples: nothing to run, only to be proved.
 pub fn counts_stand() -> u8
     ensures places { AlwaysByPlaces × NeverByPlaces }
+    ensures kinds { Kinds }
     ensures examples { Counted × (Empty × Plain) }
     ensures nothing { result ≡ 0 }
 {

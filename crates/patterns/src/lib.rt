@@ -4,6 +4,7 @@
 
 pub mod always;
 mod counter;
+pub mod counting;
 pub mod eventually;
 pub mod form;
 pub mod laws;
@@ -11,3 +12,4 @@ pub mod never;
 pub mod precisely;
 mod quota;
 mod tally;
+pub mod throughout;

@@ -1,7 +1,7 @@
-ghost use Rattle.std.specs.Prelude.{◌≡◌, ◌+◌, ◌<◌, min, if◌then◌else◌, Ok, Err};
+ghost use Rattle.std.specs.Prelude.{◌≡◌, ◌+◌, ◌<◌, min, if◌then◌else◌};
 ghost use Rattle.patterns.specs.Tallies.{Set, Kept, enough};
+ghost use Rattle.rules.specs.Settings.{TakesIfFits};
 ghost use Rattle.rules.specs.Words.{has};
-ghost use Rattle.rules.specs.declared.refusal.SettingRefusal.TheVariants.{Range};
 
 use crate::counter::Counter;
 use crate::form::Form;
@@ -9,8 +9,7 @@ use crate::quota::Quota;
 use rules::condition::Condition;
 use rules::refusal::SettingRefusal;
 
-// What the counting patterns share: the condition, how many places with it are asked for, and the count
-// so far.
+// The condition, how many places with it are asked for, and the count so far.
 #[derive(Clone, Copy)]
 pub struct Tally {
     condition: Condition,
@@ -31,7 +30,7 @@ impl Tally {
 
     // Takes the condition by its number, and starts.
     pub fn set_condition(&mut self, condition: u8) -> Result<(), SettingRefusal>
-        ensures { elim result [ Ok _ ↦ (condition < 16) × Set self.new self.old.quota.form condition self.old.quota.times × (self.new.counter.count ≡ 0) | Err e ↦ (condition < 16 → ⊥) × (e ≡ Range) × (self.new ≡ self.old) ] }
+        ensures { TakesIfFits result (condition < 16) self.old self.new ((Set self.new self.old.quota.form condition self.old.quota.times) × (self.new.counter.count ≡ 0)) }
     {
         self.condition = Condition::new(condition)?;
         self.start();
