@@ -1,5 +1,5 @@
 -- The plain patterns by places, and examples of all, computed.
-use Rattle.std.specs.Prelude.{◌≡◌, ℕ, ◌<◌, true, false, List, [], ◌∷◌, length, Decides, ◌≢◌, slice_index}
+use Rattle.std.specs.Prelude.{◌≡◌, ℕ, true, false, ◌↔◌, List, [], ◌∷◌, IsTrue, EachIndex, slice_index}
 use Rattle.rules.specs.Words.{has}
 use Rattle.patterns.specs.declared.form.Form.TheVariants.{Exactly, AtLeast, AtMost}
 use Rattle.patterns.specs.Places.{always, never, eventually, precisely, counted}
@@ -7,12 +7,12 @@ use Rattle.patterns.specs.Places.{always, never, eventually, precisely, counted}
 -- always: exactly the lists of which every place has c
 abbrev pub AlwaysByPlaces : Type 0
 AlwaysByPlaces =
-    (c : ℕ) (l : List ℕ) → Decides (always c l) ((k : ℕ) → k < length l → has c (slice_index l k) ≡ true)
+    (c : ℕ) (l : List ℕ) → IsTrue (always c l) ↔ EachIndex l (λ k. IsTrue (has c (slice_index l k)))
 
 -- never: exactly the lists of which no place has c
 abbrev pub NeverByPlaces : Type 0
 NeverByPlaces =
-    (c : ℕ) (l : List ℕ) → Decides (never c l) ((k : ℕ) → k < length l → has c (slice_index l k) ≢ true)
+    (c : ℕ) (l : List ℕ) → IsTrue (never c l) ↔ EachIndex l (λ k. ¬ IsTrue (has c (slice_index l k)))
 
 -- the two kinds of counts are these
 abbrev pub Kinds : Type 0

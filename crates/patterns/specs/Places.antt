@@ -1,5 +1,5 @@
 -- What each pattern accepts, by the places of the list, which count from 0.
-use Rattle.std.specs.Prelude.{ℕ, zero, suc, ◌+◌, Bool, true, false, cond, not, ◌&&◌, List, length, slice_index}
+use Rattle.std.specs.Prelude.{ℕ, zero, suc, ◌+◌, Bool, true, false, if◌then◌else◌, not, ◌&&◌, List, length, slice_index}
 use Rattle.std.specs.List.{list_all}
 use Rattle.rules.specs.Words.{has}
 use Rattle.patterns.specs.declared.form.Form.{Form}
@@ -21,7 +21,7 @@ throughout false = never
 -- how many places below n pass the test: place 0, and those after it
 abbrev pub how_many : (ℕ → Bool) → ℕ → ℕ
 how_many test zero = 0
-how_many test (suc n) = cond (test 0) 1 0 + how_many (λ k. test (suc k)) n
+how_many test (suc n) = (if test 0 then 1 else 0) + how_many (λ k. test (suc k)) n
 
 -- place k has c
 abbrev pub stands : ℕ → List ℕ → ℕ → Bool

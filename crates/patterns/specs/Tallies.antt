@@ -13,6 +13,10 @@ Set y form c t = (y.quota.form ≡ form) × (y.condition.number ≡ c) × (y.quo
 abbrev pub Kept : Tally → Tally → Type 0
 Kept y z = Set y z.quota.form z.condition.number z.quota.times
 
+-- it counts so, and has counted nothing yet
+abbrev pub SetAnew : Tally → Form → ℕ → ℕ → Type 0
+SetAnew y form c t = Set y form c t × (y.counter.count ≡ 0)
+
 -- what a pattern of form, condition and times accepts at the tally's settings
 abbrev pub set_as : (Form → ℕ → ℕ → List ℕ → Bool) → Tally → List ℕ → Bool
 set_as pattern y = pattern y.quota.form y.condition.number y.quota.times

@@ -1,5 +1,5 @@
 ghost use Rattle.std.specs.Prelude.{◌≡◌, ◌+◌, ◌<◌, min, if◌then◌else◌};
-ghost use Rattle.patterns.specs.Tallies.{Set, Kept, enough};
+ghost use Rattle.patterns.specs.Tallies.{SetAnew, Kept, enough};
 ghost use Rattle.rules.specs.Settings.{TakesIfFits};
 ghost use Rattle.rules.specs.Words.{has};
 
@@ -19,7 +19,7 @@ pub struct Tally {
 
 impl Tally {
     pub fn new(form: Form) -> Tally
-        ensures { (Set result form 0 0) × (result.counter.count ≡ 0) }
+        ensures { SetAnew result form 0 0 }
     {
         Tally {
             condition: Condition::first(),
@@ -30,7 +30,7 @@ impl Tally {
 
     // Takes the condition by its number, and starts.
     pub fn set_condition(&mut self, condition: u8) -> Result<(), SettingRefusal>
-        ensures { TakesIfFits result (condition < 16) self.old self.new ((Set self.new self.old.quota.form condition self.old.quota.times) × (self.new.counter.count ≡ 0)) }
+        ensures { TakesIfFits result (condition < 16) self.old self.new (SetAnew self.new self.old.quota.form condition self.old.quota.times) }
     {
         self.condition = Condition::new(condition)?;
         self.start();
@@ -39,14 +39,14 @@ impl Tally {
 
     // Takes the number of times, and starts.
     pub fn set_times(&mut self, times: u16)
-        ensures { (Set self.new self.old.quota.form self.old.condition.number times) × (self.new.counter.count ≡ 0) }
+        ensures { SetAnew self.new self.old.quota.form self.old.condition.number times }
     {
         self.quota.set_times(times);
         self.start();
     }
 
     pub fn start(&mut self)
-        ensures { (Kept self.new self.old) × (self.new.counter.count ≡ 0) }
+        ensures { SetAnew self.new self.old.quota.form self.old.condition.number self.old.quota.times }
     {
         self.counter = Counter::zero();
     }
