@@ -2,6 +2,8 @@
 
 #![tactic(auto)]
 
+pub mod reading;
+
 ghost use Rattle.std.specs.Prelude.{◌≡◌};
 ghost use Rattle.framing.specs.Framed.{fault_number, announcement, parts_of, split, held, framed};
 
@@ -49,29 +51,19 @@ pub struct Tables<'a> {
 pub fn announced(input: &[u8]) -> Option<usize>
     ensures { result ≡ announcement input.now }
 {
-    let [first, second, third, fourth, ..] = input else {
-        return None;
-    };
-    let high = *first as usize * 256 + *second as usize;
-    let low = *third as usize * 256 + *fourth as usize;
-    Some(high * 65536 + low)
+    let bytes = input.first_chunk::<PREFIX>()?;
+    Some(u32::from_be_bytes(*bytes) as usize)
 }
 
 // Takes a part that follows its length off the front of the input.
 fn take_part(input: &[u8]) -> Result<Part<'_>, InputFault>
     ensures { parts_of result ≡ split input.now }
 {
-    let Some(len) = announced(input) else {
-        return Err(InputFault::CutShort);
-    };
-    let end = PREFIX + len;
-    if input.len() < end {
-        return Err(InputFault::CutShort);
-    }
-    Ok(Part {
-        bytes: &input[PREFIX..end],
-        after: &input[end..input.len()],
-    })
+    let len = announced(input).ok_or(InputFault::CutShort)?;
+    let (bytes, after) = input[PREFIX..]
+        .split_at_checked(len)
+        .ok_or(InputFault::CutShort)?;
+    Ok(Part { bytes, after })
 }
 
 // The two tables of a program's input.

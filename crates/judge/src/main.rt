@@ -2,19 +2,16 @@
 
 #![tactic(auto)]
 
-use framing::MOST_INPUT;
+use framing::reading::read_input;
 use judging::line::{LINE_ROOM, judge_line};
 use std::io;
-use std::io::{Read, Write};
+use std::io::Write;
 
 // The longest composed table.
 const SCRATCH: usize = 16_252;
 
 fn main(rt: HostRuntime) -> io::Result<()> {
-    let mut input = Vec::new(rt.alloc());
-    // One byte above the limit is enough to tell that there are too many.
-    let mut stdin = rt.stdin().take(MOST_INPUT as u64 + 1);
-    let _ = stdin.read_to_end(&mut input)?;
+    let input = read_input(rt.alloc(), rt.stdin())?;
     let mut scratch = vec![in rt.alloc(); 0u8; SCRATCH]?;
     let mut line = [0u8; LINE_ROOM];
     match judge_line(input.as_slice(), scratch.as_mut_slice(), &mut line) {
