@@ -6,3 +6,4 @@ pub mod mark;
 pub mod pattern;
 pub mod scope;
 pub mod table;
+mod walk;

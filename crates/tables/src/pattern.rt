@@ -4,13 +4,11 @@ pub mod reading;
 ghost use Rattle.std.specs.Prelude.{◌≡◌, ◌<◌, true};
 ghost use Rattle.table_format.specs.Layout.{is_pattern, states_of};
 
-use crate::table::Table;
+use crate::walk::Walk;
 
 // A pattern that a pattern table gives: it stands in one of the table's states.
 #[derive(Clone, Copy)]
 pub struct TablePattern<'a> {
-    table: Table<'a>,
-    state: usize,
-    ghost plain: { is_pattern table.kind ≡ true },
-    ghost inside: { state < states_of table.bytes.now },
+    walk: Walk<'a>,
+    ghost plain: { is_pattern walk.table.kind ≡ true },
 }

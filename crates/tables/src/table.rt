@@ -1,4 +1,4 @@
-ghost use Rattle.std.specs.Prelude.{◌≡◌, ℕ, ◌+◌, ◌*◌, ◌<◌, ◌≤◌, false, length, is_some, MatchResult, slice_index};
+ghost use Rattle.std.specs.Prelude.{◌≡◌, ℕ, ◌+◌, ◌*◌, ◌<◌, ◌≤◌, false, length, is_some, IfOk, MatchResult, slice_index};
 ghost use Rattle.std.specs.Result.{result_err};
 ghost use Rattle.table_format.specs.Layout.{target, states_of, width_of, size_of, flag_of, entry_of, flag_at, entry_at, built_in};
 ghost use Rattle.table_format.specs.Checked.{checked};
@@ -39,13 +39,21 @@ impl<'a> Table<'a> {
         }
     }
 
+    // The table that the bytes are, if they are a lawful table of the kind.
+    pub fn new(kind: Kind, bytes: &'a [u8]) -> Result<Table<'a>, TableFault>
+        ensures says { result_err result ≡ checked kind bytes.now }
+        ensures holds { IfOk result (λ table. (table.kind ≡ kind) × (table.bytes.now ≡ bytes.now)) }
+    {
+        check(kind, bytes)?;
+        Ok(Table::over(kind, bytes))
+    }
+
     // Checks the bytes and holds them in place of the table held. A refusal keeps the one held.
     pub fn replace(&mut self, bytes: &'a [u8]) -> Result<(), TableFault>
         ensures says { result_err result ≡ checked self.old.kind bytes.now }
         ensures holds { MatchResult result (λ _. (self.new.kind ≡ self.old.kind) × (self.new.bytes.now ≡ bytes.now)) (λ _. self.new ≡ self.old) }
     {
-        check(self.kind, bytes)?;
-        *self = Table::over(self.kind, bytes);
+        *self = Table::new(self.kind, bytes)?;
         Ok(())
     }
 

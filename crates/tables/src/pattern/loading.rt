@@ -3,41 +3,38 @@ ghost use Rattle.std.specs.Result.{result_err};
 ghost use Rattle.table_format.specs.Checked.{checked};
 ghost use Rattle.table_format.specs.Layout.{built_in, width_of};
 ghost use Rattle.tables.specs.Runs.{accepts};
-ghost use Rattle.tables.specs.contracts.pattern.reading.TablePatternPattern.TheImpl.{ghosts};
 ghost use Rattle.table_format.specs.declared.kind.Kind.TheVariants.{Pattern as PatternKind};
 
 use crate::pattern::TablePattern;
-use crate::table::Table;
+use crate::walk::Walk;
+use rules::pattern::Pattern;
 use table_format::fault::TableFault;
 use table_format::kind::Kind;
 
 impl<'a> TablePattern<'a> {
     // The pattern of the built-in table, at its start.
     pub fn new() -> TablePattern<'a>
-        ensures meaning { ghosts.meaning result ≡ accepts (built_in PatternKind) }
-        ensures fresh { ghosts.rest result ≡ accepts (built_in PatternKind) }
+        ensures meaning { ⟦<TablePattern<'a> as Pattern>⟧.meaning result ≡ accepts (built_in PatternKind) }
+        ensures fresh { ⟦<TablePattern<'a> as Pattern>⟧.rest result ≡ accepts (built_in PatternKind) }
     {
         TablePattern {
-            table: Table::built_in(Kind::Pattern),
-            state: 0,
+            walk: Walk::new(Kind::Pattern),
         }
     }
 
     // Checks the bytes, holds them in place of the table held, and starts. A refusal changes nothing.
     pub fn load(&mut self, bytes: &'a [u8]) -> Result<(), TableFault>
         ensures says { result_err result ≡ checked PatternKind bytes.now }
-        ensures holds { MatchResult result (λ _. (self.new.table.bytes.now ≡ bytes.now) × (ghosts.meaning self.new ≡ accepts bytes.now) × (ghosts.rest self.new ≡ accepts bytes.now)) (λ _. self.new ≡ self.old) }
+        ensures holds { MatchResult result (λ _. (self.new.walk.table.bytes.now ≡ bytes.now) × (⟦<TablePattern<'a> as Pattern>⟧.meaning self.new ≡ accepts bytes.now) × (⟦<TablePattern<'a> as Pattern>⟧.rest self.new ≡ accepts bytes.now)) (λ _. self.new ≡ self.old) }
     {
-        let mut table = self.table;
-        table.replace(bytes)?;
-        *self = TablePattern { table, state: 0 };
+        self.walk = self.walk.load(bytes)?;
         Ok(())
     }
 
     // The width of the table held.
     pub fn width(&self) -> u8
-        ensures { result ≡ width_of self.now.table.bytes.now }
+        ensures { result ≡ width_of self.now.walk.table.bytes.now }
     {
-        self.table.width()
+        self.walk.width()
     }
 }

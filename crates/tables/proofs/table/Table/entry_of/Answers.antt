@@ -1,19 +1,13 @@
-use Rattle.std.proofs.Common.{◌≡◌, ◌+◌, ◌*◌, arith, rules}
+use Rattle.std.proofs.Common.{◌≡◌, ◌+◌, ◌*◌, arith}
 use Rattle.std.proofs.lemmas.List.Edits.{get_or-between}
 use Rattle.table_format.specs.Layout.{entry_of}
-use Rattle.table_format.proofs.Laws.{row_within, lawful}
+use Rattle.table_format.proofs.Laws.{lawful}
 use Rattle.tables.proofs.table.Table.entry_of.Goals as goal
 
-pub slice_bounds-entry_in-end : goal.slice_bounds-entry_in-end
-slice_bounds-entry_in-end c = let w = row_within c.args.state c.args.self.now.states c.args.self.now.size (omega arith) in search rules
-
-pub returns : goal.returns
-returns c =
+pub returns-clause-leads : goal.returns-clause-leads
+returns-clause-leads c =
     let t = c.args.self.now.bytes.now in
     let start = 2 + c.args.self.now.states + c.args.state * c.args.self.now.size in
     let read = get_or-between t start (start + c.args.self.now.size) c.args.letter 0 (omega arith) in
     let is : c.entry_in.result ≡ entry_of t c.args.state c.args.letter = cc in
-    record {
-      value = is;
-      leads = rw is ((lawful c.args.self.now.kind t c.args.self.now.lawful).entries c.args.state c.args.letter c.requires.state_bound c.requires.letter_bound);
-    }
+    rw is ((lawful c.args.self.now.kind t c.args.self.now.lawful).entries c.args.state c.args.letter c.requires.state_bound c.requires.letter_bound)
