@@ -1,5 +1,5 @@
 pub mod Forms
 pub mod Places
 pub mod Steps
-pub mod Tallies
+pub mod Quotas
 pub mod Laws

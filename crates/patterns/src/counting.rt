@@ -2,11 +2,13 @@
 
 ghost use Rattle.std.specs.Prelude.{◌≡◌, ◌<◌, ℕ, List, ◌∷◌, OnOk};
 ghost use Rattle.patterns.specs.Places.{counted};
-ghost use Rattle.patterns.specs.Tallies.{Set, Kept, counted_rest, set_as};
+ghost use Rattle.patterns.specs.Quotas.{Set, accepted, counted_rest};
 ghost use Rattle.rules.specs.Settings.{IsFreshPattern, TakesIfFits};
 
+use crate::counter::Counter;
 use crate::form::Form;
-use crate::tally::Tally;
+use crate::quota::Quota;
+use rules::condition::Condition;
 use rules::pattern::Pattern;
 use rules::refusal::SettingRefusal;
 
@@ -14,68 +16,72 @@ use rules::refusal::SettingRefusal;
 // it not.
 #[derive(Clone, Copy)]
 pub struct Counting<const RISES: bool> {
-    tally: Tally,
+    quota: Quota,
+    counter: Counter,
     // whether the word before has the condition
     before: bool,
 }
 
 impl<const RISES: bool> Counting<RISES> {
     pub fn new(form: Form) -> Counting<RISES>
-        ensures settings { Set result.tally form 0 0 }
+        ensures settings { Set result.quota form 0 0 }
         ensures accepts { IsFreshPattern ⟦<Counting<RISES> as Pattern>⟧ result (counted RISES form 0 0) }
     {
         Counting {
-            tally: Tally::new(form),
+            quota: Quota {
+                form,
+                condition: Condition::first(),
+                times: 0,
+            },
+            counter: Counter::zero(),
             before: false,
         }
     }
 
     // Takes the condition by its number, and starts.
     pub fn set_condition(&mut self, condition: u8) -> Result<(), SettingRefusal>
-        ensures settings { TakesIfFits result (condition < 16) self.old self.new (Set self.new.tally self.old.tally.quota.form condition self.old.tally.quota.times) }
-        ensures accepts { OnOk result (IsFreshPattern ⟦<Counting<RISES> as Pattern>⟧ self.new (counted RISES self.old.tally.quota.form condition self.old.tally.quota.times)) }
+        ensures settings { TakesIfFits result (condition < 16) self.old self.new (Set self.new.quota self.old.quota.form condition self.old.quota.times) }
+        ensures accepts { OnOk result (IsFreshPattern ⟦<Counting<RISES> as Pattern>⟧ self.new (counted RISES self.old.quota.form condition self.old.quota.times)) }
     {
-        self.tally.set_condition(condition)?;
-        self.before = false;
+        self.quota.condition = Condition::new(condition)?;
+        self.start();
         Ok(())
     }
 
     // Takes the number of times, and starts.
     pub fn set_times(&mut self, times: u16)
-        ensures settings { Set self.new.tally self.old.tally.quota.form self.old.tally.condition.number times }
-        ensures accepts { IsFreshPattern ⟦<Counting<RISES> as Pattern>⟧ self.new (counted RISES self.old.tally.quota.form self.old.tally.condition.number times) }
+        ensures settings { Set self.new.quota self.old.quota.form self.old.quota.condition.number times }
+        ensures accepts { IsFreshPattern ⟦<Counting<RISES> as Pattern>⟧ self.new (counted RISES self.old.quota.form self.old.quota.condition.number times) }
     {
-        self.tally.set_times(times);
-        self.before = false;
+        self.quota.times = times;
+        self.start();
     }
 }
 
 // Beside what every pattern promises, no call but the setters changes the settings.
 impl<const RISES: bool> Pattern for Counting<RISES> {
-    ghost meaning = { λ p. set_as (counted RISES) p.tally };
+    ghost meaning = { λ p. accepted RISES p.quota };
 
-    ghost rest = { λ p. counted_rest RISES p.tally p.before };
+    ghost rest = { λ p. counted_rest RISES p.quota p.counter.count p.before };
 
     fn start(&mut self)
-        ensures kept { set_as (counted RISES) self.new.tally ≡ set_as (counted RISES) self.old.tally }
-        ensures fresh { counted_rest RISES self.new.tally self.new.before ≡ set_as (counted RISES) self.old.tally }
-        ensures settings { Kept self.new.tally self.old.tally }
+        ensures accepts { IsFreshPattern ⟦<Counting<RISES> as Pattern>⟧ self.new (accepted RISES self.old.quota) }
+        ensures settings { self.new.quota ≡ self.old.quota }
     {
-        self.tally.start();
+        self.counter = Counter::zero();
         self.before = false;
     }
 
     fn read(&mut self, word: u16)
-        ensures kept { set_as (counted RISES) self.new.tally ≡ set_as (counted RISES) self.old.tally }
-        ensures step { (l : List ℕ) → counted_rest RISES self.new.tally self.new.before l ≡ counted_rest RISES self.old.tally self.old.before (word ∷ l) }
-        ensures settings { Kept self.new.tally self.old.tally }
+        ensures step { (l : List ℕ) → ⟦<Counting<RISES> as Pattern>⟧.rest self.new l ≡ ⟦<Counting<RISES> as Pattern>⟧.rest self.old (word ∷ l) }
+        ensures settings { self.new.quota ≡ self.old.quota }
     {
-        let holds = self.tally.holds(word);
-        self.tally.add(holds & !(RISES & self.before));
+        let holds = self.quota.condition.holds(word);
+        self.counter = self.counter.add(holds & !(RISES & self.before));
         self.before = holds;
     }
 
     fn verdict(&self) -> bool {
-        self.tally.is_met()
+        self.quota.is_met(self.counter.count())
     }
 }

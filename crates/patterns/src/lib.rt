@@ -11,5 +11,4 @@ pub mod laws;
 pub mod never;
 pub mod precisely;
 mod quota;
-mod tally;
 pub mod throughout;
