@@ -24,6 +24,13 @@ abbrev pub fault_or : (TableFault → ComposeFault) → Option TableFault → Re
 fault_or f None next = next
 fault_or f (Some fault) next = Err (f fault)
 
+-- what is looked at first once both tables are lawful: the widths and the number of states
+abbrev pub pairing : List ℕ → List ℕ → Option ComposeFault
+pairing p s =
+    cond (not (width_of p == width_of s)) (Some Widths)
+    (cond (nat_lt 250 (total_of p s)) (Some States)
+    None)
+
 -- what is looked at once both tables are lawful: the widths, the number of states and the room for the bytes
 abbrev pub fitting : List ℕ → List ℕ → ℕ → Result ℕ ComposeFault
 fitting p s room =

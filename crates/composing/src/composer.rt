@@ -1,13 +1,20 @@
 mod writing;
 
-ghost use Rattle.std.specs.Prelude.{◌≡◌, ◌+◌, ◌*◌, ◌%◌, ◌<◌, ◌≤◌, true, false};
+ghost use Rattle.std.specs.Prelude.{◌≡◌, ◌+◌, ◌*◌, ◌%◌, ◌<◌, ◌≤◌, true, false, IfOk};
 ghost use Rattle.table_format.specs.Layout.{is_pattern, states_of, width_of, size_of, flag_of, entry_of};
-ghost use Rattle.composing.specs.Composed.{place_number, place_at, bit_of, place_flag, lands, leads, entry_from, total_of, Within};
+ghost use Rattle.std.specs.Result.{result_err};
+ghost use Rattle.composing.specs.Composing.{pairing};
+ghost use Rattle.composing.specs.Composed.{place_number, place_at, bit_of, place_flag, lands, leads, entry_from, composed_length};
 
+use crate::fault::ComposeFault;
 use crate::place::Place;
 use rules::mark::Mark;
+use table_format::kind::Kind;
 use tables::mark::mark_of;
 use tables::table::Table;
+
+// The largest number of states of a pattern table.
+const MOST_STATES: usize = 250;
 
 // Two tables that compose: their widths are the same, and the composed table has few enough states.
 #[derive(Clone, Copy)]
@@ -20,6 +27,7 @@ pub struct Composer<'a> {
     failed: usize,
     ghost plain: { is_pattern pattern.kind ≡ true },
     ghost marking: { is_pattern scope.kind ≡ false },
+    ghost widths: { width_of pattern.bytes.now ≡ width_of scope.bytes.now },
     ghost same: { size_of scope.bytes.now ≡ size_of pattern.bytes.now },
     ghost blocks: { block ≡ states_of pattern.bytes.now + 1 },
     ghost highest: { failed ≡ states_of scope.bytes.now * block },
@@ -27,29 +35,46 @@ pub struct Composer<'a> {
 }
 
 impl<'a> Composer<'a> {
-    pub(crate) fn over(pattern: Table<'a>, scope: Table<'a>) -> Composer<'a>
+    ghost use Rattle.composing.specs.Places.{IsPlace, IsPatternState, IsScopeState, IsLetter};
+
+    // The composer of two tables, if they have one width and few enough states.
+    pub(crate) fn new(pattern: Table<'a>, scope: Table<'a>) -> Result<Composer<'a>, ComposeFault>
         requires pattern_kind { is_pattern pattern.kind ≡ true }
         requires scope_kind { is_pattern scope.kind ≡ false }
-        requires one_width { width_of pattern.bytes.now ≡ width_of scope.bytes.now }
-        requires few_states { total_of pattern.bytes.now scope.bytes.now ≤ 250 }
-        ensures pattern { result.pattern ≡ pattern.entry }
-        ensures scope { result.scope ≡ scope.entry }
+        ensures says { result_err result ≡ pairing pattern.entry.bytes.now scope.entry.bytes.now }
+        ensures holds { IfOk result (λ composer. (composer.pattern ≡ pattern.entry) × (composer.scope ≡ scope.entry)) }
     {
+        if pattern.width() != scope.width() {
+            return Err(ComposeFault::Widths);
+        }
         let block = pattern.states() + 1;
         let failed = scope.states() * block;
-        Composer {
+        let total = failed + 1;
+        if total > MOST_STATES {
+            return Err(ComposeFault::States);
+        }
+        Ok(Composer {
             pattern,
             scope,
             block,
             failed,
-        }
+        })
+    }
+
+    // The length of the composed table.
+    pub(crate) fn len(&self) -> usize
+        ensures value { result ≡ composed_length self.now.pattern.bytes.now self.now.scope.bytes.now }
+        ensures short { result ≤ 16252 }
+    {
+        let total = self.failed + 1;
+        2 + total + total * self.pattern.size()
     }
 
     // The place that a number stands for.
     fn place(&self, number: usize) -> Place
         requires { number ≤ self.now.failed }
         ensures value { result ≡ place_at self.now.block (states_of self.now.scope.bytes.now) number }
-        ensures within { Within (states_of self.now.pattern.bytes.now) (states_of self.now.scope.bytes.now) result }
+        ensures within { IsPlace self.now result }
     {
         if number == self.failed {
             Place::Failed
@@ -61,7 +86,7 @@ impl<'a> Composer<'a> {
     }
 
     fn number(&self, place: Place) -> u8
-        requires { Within (states_of self.now.pattern.bytes.now) (states_of self.now.scope.bytes.now) place }
+        requires { IsPlace self.now place }
         ensures { result ≡ place_number self.now.block (states_of self.now.scope.bytes.now) place }
     {
         match place {
@@ -73,39 +98,39 @@ impl<'a> Composer<'a> {
 
     // The pattern's next state.
     fn next(&self, q: usize, letter: usize) -> usize
-        requires q_bound { q < states_of self.now.pattern.bytes.now }
-        requires letter_bound { letter < size_of self.now.pattern.bytes.now }
+        requires q_bound { IsPatternState self.now q }
+        requires letter_bound { IsLetter self.now letter }
         ensures value { result ≡ entry_of self.now.pattern.bytes.now q letter }
-        ensures within { result < states_of self.now.pattern.bytes.now }
+        ensures within { IsPatternState self.now result }
     {
-        self.pattern.entry(q, letter).unwrap_or(0) as usize
+        self.pattern.entry(q, letter).unwrap() as usize
     }
 
     // Whether the pattern accepts in a state.
     fn accepts(&self, q: usize) -> bool
-        requires { q < states_of self.now.pattern.bytes.now }
+        requires { IsPatternState self.now q }
         ensures { result ≡ flag_of self.now.pattern.bytes.now q }
     {
-        self.pattern.flag(q).unwrap_or(false)
+        self.pattern.flag(q).unwrap()
     }
 
     // The scope's entry: its next state and the mark.
     fn move_of(&self, s: usize, letter: usize) -> u8
-        requires s_bound { s < states_of self.now.scope.bytes.now }
-        requires letter_bound { letter < size_of self.now.pattern.bytes.now }
+        requires s_bound { IsScopeState self.now s }
+        requires letter_bound { IsLetter self.now letter }
         ensures value { result ≡ entry_of self.now.scope.bytes.now s letter }
-        ensures within { result % 64 < states_of self.now.scope.bytes.now }
+        ensures within { IsScopeState self.now (result % 64) }
     {
-        self.scope.entry(s, letter).unwrap_or(0)
+        self.scope.entry(s, letter).unwrap()
     }
 
     // Where a word with this mark leads, when the scope goes to state s.
     fn lands(&self, mark: Mark, s: usize, fine: bool, on: usize, fresh: usize) -> Place
-        requires s_bound { s < states_of self.now.scope.bytes.now }
-        requires on_bound { on < states_of self.now.pattern.bytes.now }
-        requires fresh_bound { fresh < states_of self.now.pattern.bytes.now }
+        requires s_bound { IsScopeState self.now s }
+        requires on_bound { IsPatternState self.now on }
+        requires fresh_bound { IsPatternState self.now fresh }
         ensures value { result ≡ lands self.now.pattern.bytes.now mark s fine on fresh }
-        ensures within { Within (states_of self.now.pattern.bytes.now) (states_of self.now.scope.bytes.now) result }
+        ensures within { IsPlace self.now result }
     {
         let closes = match mark {
             Mark::In => return Place::Inside(s, on),
@@ -122,17 +147,23 @@ impl<'a> Composer<'a> {
 
     // Where a letter leads from a place.
     fn leads(&self, place: Place, letter: usize) -> Place
-        requires placed { Within (states_of self.now.pattern.bytes.now) (states_of self.now.scope.bytes.now) place }
-        requires letter_bound { letter < size_of self.now.pattern.bytes.now }
+        requires placed { IsPlace self.now place }
+        requires letter_bound { IsLetter self.now letter }
         ensures value { result ≡ leads self.now.pattern.bytes.now self.now.scope.bytes.now letter place }
-        ensures within { Within (states_of self.now.pattern.bytes.now) (states_of self.now.scope.bytes.now) result }
+        ensures within { IsPlace self.now result }
     {
         match place {
             Place::Failed => Place::Failed,
             Place::Outside(s) => {
                 let entry = self.move_of(s, letter);
                 let fresh = self.next(0, letter);
-                self.lands(mark_of(entry), (entry % 64) as usize, true, fresh, fresh)
+                self.lands(
+                    mark_of(entry),
+                    Kind::Scope.next_state(entry) as usize,
+                    true,
+                    fresh,
+                    fresh,
+                )
             }
             Place::Inside(s, q) => {
                 let entry = self.move_of(s, letter);
@@ -140,7 +171,7 @@ impl<'a> Composer<'a> {
                 let on = self.next(q, letter);
                 self.lands(
                     mark_of(entry),
-                    (entry % 64) as usize,
+                    Kind::Scope.next_state(entry) as usize,
                     self.accepts(q),
                     on,
                     fresh,
@@ -150,22 +181,22 @@ impl<'a> Composer<'a> {
     }
 
     fn entry(&self, place: Place, letter: usize) -> u8
-        requires placed { Within (states_of self.now.pattern.bytes.now) (states_of self.now.scope.bytes.now) place }
-        requires letter_bound { letter < size_of self.now.pattern.bytes.now }
+        requires placed { IsPlace self.now place }
+        requires letter_bound { IsLetter self.now letter }
         ensures { result ≡ entry_from self.now.pattern.bytes.now self.now.scope.bytes.now place letter }
     {
         self.number(self.leads(place, letter))
     }
 
     fn flag(&self, place: Place) -> u8
-        requires { Within (states_of self.now.pattern.bytes.now) (states_of self.now.scope.bytes.now) place }
+        requires { IsPlace self.now place }
         ensures { result ≡ bit_of (place_flag self.now.pattern.bytes.now self.now.scope.bytes.now place) }
     {
         match place {
             Place::Failed => 0,
             Place::Outside(_) => 1,
             Place::Inside(s, q) => {
-                if self.scope.flag(s).unwrap_or(false) && !self.accepts(q) {
+                if self.scope.flag(s).unwrap() && !self.accepts(q) {
                     0
                 } else {
                     1

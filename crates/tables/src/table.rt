@@ -1,4 +1,4 @@
-ghost use Rattle.std.specs.Prelude.{◌≡◌, ℕ, ◌+◌, ◌*◌, ◌<◌, ◌≤◌, false, length, is_some, IfOk, MatchResult, slice_index};
+ghost use Rattle.std.specs.Prelude.{◌≡◌, ℕ, ◌+◌, ◌*◌, ◌<◌, ◌≤◌, false, length, is_some, IfOk, IfSome, MatchResult, slice_index};
 ghost use Rattle.std.specs.Result.{result_err};
 ghost use Rattle.table_format.specs.Layout.{target, states_of, width_of, size_of, flag_of, entry_of, flag_at, entry_at, built_in};
 ghost use Rattle.table_format.specs.Checked.{checked};
@@ -106,7 +106,8 @@ impl<'a> Table<'a> {
 
     // The entry of a state at a letter, if there are such a state and such a letter.
     pub fn entry(&self, state: usize, letter: usize) -> Option<u8>
-        ensures { result ≡ entry_at self.now.bytes.now state letter }
+        ensures value { result ≡ entry_at self.now.bytes.now state letter }
+        ensures leads { IfSome result (λ entry. target self.now.kind entry < states_of self.now.bytes.now) }
     {
         if state < self.states && letter < self.size {
             Some(self.entry_of(state, letter))

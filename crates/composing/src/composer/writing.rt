@@ -1,7 +1,8 @@
 ghost use Rattle.std.specs.Prelude.{◌≡◌, ◌+◌, ◌*◌, map, length};
 ghost use Rattle.std.specs.List.{range_with_len};
 ghost use Rattle.table_format.specs.Layout.{states_of, size_of};
-ghost use Rattle.composing.specs.Composed.{flag_byte, entry_from, rows_of, composed, composed_length, Within};
+ghost use Rattle.composing.specs.Composed.{flag_byte, entry_from, rows_of, composed, composed_length};
+ghost use Rattle.composing.specs.Places.{IsPlace};
 
 use crate::composer::Composer;
 use crate::place::Place;
@@ -11,18 +12,18 @@ impl<'a> Composer<'a> {
         requires { length flags.old ≡ self.now.failed + 1 }
         ensures { flags.new ≡ map (flag_byte self.now.pattern.bytes.now self.now.scope.bytes.now) (range_with_len 0 (self.now.failed + 1)) }
     {
-        for number in 0..flags.len() {
-            flags[number] = self.flag(self.place(number));
+        for (number, flag) in flags.iter_mut().enumerate() {
+            *flag = self.flag(self.place(number));
         }
     }
 
     fn write_row(&self, place: Place, row: &mut [u8])
-        requires placed { Within (states_of self.now.pattern.bytes.now) (states_of self.now.scope.bytes.now) place }
+        requires placed { IsPlace self.now place }
         requires row_len { length row.old ≡ size_of self.now.pattern.bytes.now }
         ensures { row.new ≡ map (entry_from self.now.pattern.bytes.now self.now.scope.bytes.now place) (range_with_len 0 (size_of self.now.pattern.bytes.now)) }
     {
-        for letter in 0..row.len() {
-            row[letter] = self.entry(place, letter);
+        for (letter, entry) in row.iter_mut().enumerate() {
+            *entry = self.entry(place, letter);
         }
     }
 

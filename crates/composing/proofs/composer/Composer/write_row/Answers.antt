@@ -2,13 +2,7 @@ use Rattle.std.proofs.Common.{arith}
 use Rattle.std.proofs.lemmas.List.FromFn.{fill_by_all}
 use Rattle.table_format.specs.Layout.{size_of}
 use Rattle.composing.specs.Composed.{entry_from}
-use Rattle.composing.proofs.Filled.{fill_more}
 use Rattle.composing.proofs.composer.Composer.write_row.Goals as goal
-
-pub loop-letter-preserved : goal.loop-letter-preserved
-loop-letter-preserved c =
-    fill_more (entry_from c.args.self.now.pattern.bytes.now c.args.self.now.scope.bytes.now c.args.place)
-    c.loop-letter.row c.loop-letter.letter c.entry.result (omega arith) c.entry.ensures c.loop-letter.invariant
 
 pub returns : goal.returns
 returns c =

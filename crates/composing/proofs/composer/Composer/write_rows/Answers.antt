@@ -9,12 +9,6 @@ use Rattle.composing.specs.Composed.{place_at, entry_from, entry_byte, row_of}
 use Rattle.composing.proofs.Filled.{rows_more}
 use Rattle.composing.proofs.composer.Composer.write_rows.Goals as goal
 
-pub slice_bounds-write_row-end : goal.slice_bounds-write_row-end
-slice_bounds-write_row-end c =
-    let w = row_within c.loop-number.number (c.args.self.now.failed + 1) c.size-size.result (omega arith) in
-    let fit : length c.loop-number.rows ≡ (c.args.self.now.failed + 1) * c.size-size.result = cc in
-    search rules
-
 pub loop-number-preserved : goal.loop-number-preserved
 loop-number-preserved c =
     let p = c.args.self.now.pattern.bytes.now in
@@ -28,10 +22,3 @@ loop-number-preserved c =
     rows_more (row_of p s) k c.size-size.result _ c.loop-number.rows c.write_row.new.row c.loop-number.invariant is
     (ap length is ∙ length-map-range_with_len (entry_byte p s k) 0 (size_of p) ∙ sym c.size-size.ensures.value)
     (omega arith)
-
-pub returns : goal.returns
-returns c =
-    let n : c.loop-number.number ≡ c.args.self.now.failed + 1 = omega arith in
-    let fit : length c.loop-number.rows ≡ c.loop-number.number * c.size-size.result = cc in
-    let whole = take_all (c.loop-number.number * c.size-size.result) c.loop-number.rows (omega arith) in
-    cc
