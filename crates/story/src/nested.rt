@@ -2,6 +2,7 @@ use crate::rule;
 use crate::telling::{tell_feeding, tell_record};
 use crate::trouble::Trouble;
 use encoders::contacts::Contacts;
+use kinds::setup;
 use layer::over::Over;
 use patterns::never::Never;
 use rules::refusal::SettingRefusal;
@@ -14,9 +15,9 @@ type NestedWatch = Watch<Contacts, Over<Before, Over<Between, Never>>>;
 
 fn nested_watch() -> Result<NestedWatch, SettingRefusal> {
     let contacts = rule::contacts()?;
-    let before = rule::before(rule::STOPPED)?;
-    let between = rule::between(rule::BREAK, rule::THREADED)?;
-    let never = rule::never(rule::DRIVEN)?;
+    let before = setup::before(rule::STOPPED)?;
+    let between = setup::between(rule::BREAK, rule::THREADED)?;
+    let never = setup::never(rule::DRIVEN)?;
     Ok(Watch::new(contacts, before, Over::new(between, never)))
 }
 

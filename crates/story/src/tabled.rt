@@ -1,8 +1,8 @@
-use crate::rule;
 use crate::telling::{tell_feeding, tell_record};
 use crate::trouble::Trouble;
 use composing::compose::compose;
 use encoders::letters::Letters;
+use kinds::setup::letters;
 use scopes::globally::Globally;
 use tables::pattern::TablePattern;
 use watch::watch::Watch;
@@ -21,7 +21,7 @@ static BETWEEN: [u8; 20] = [
     65, 65, 65, 65, 0, 0, 0, 0,
 ];
 
-// No composed table is longer.
+// The room that composing writes into, since it takes no heap: no composed table is longer.
 const LONGEST: usize = 16_252;
 
 // Judges two records by a pattern table.
@@ -39,5 +39,5 @@ pub fn tell(rt: &HostRuntime) -> Result<(), Trouble> {
     let mut room = [0u8; LONGEST];
     let length = compose(&NEVER, &BETWEEN, &mut room)?;
     println!(rt; "  composed: {length} bytes, {} states", room[0])?;
-    tell_table(rt, &room[0..length], rule::letters(3)?)
+    tell_table(rt, &room[0..length], letters(3)?)
 }

@@ -2,7 +2,7 @@
 use rules::encoder::Encoder;
 use rules::pattern::Pattern;
 use runs::{Answer, Call};
-use std::io;
+use std::{fmt, io};
 use watch::fault::{PlayFault, WatchFault};
 use watch::watch::Watch;
 
@@ -11,43 +11,46 @@ pub fn yes_or_no(kept: bool) -> &'static str {
 }
 
 // A call of a watch, with what it answered.
-pub fn tell_answer(rt: &HostRuntime, call: Call<'_>, answer: Answer) -> io::Result<()> {
-    tell_call(rt, call)?;
-    match answer {
-        Answer::Fed(Ok(count)) => println!(rt; "accepted, {count} so far"),
-        Answer::Fed(Err(fault)) => tell_refused_sample(rt, fault),
-        Answer::Played(Ok(count)) => println!(rt; "played, {count} accepted"),
-        Answer::Played(Err(fault)) => tell_refused_record(rt, fault),
-        Answer::Begun => println!(rt; "begun"),
-        Answer::Judged(kept) => println!(rt; "{}", yes_or_no(kept)),
-    }
-}
+#[derive(Clone, Copy)]
+struct Told<'a>(Call<'a>, Answer);
 
-fn tell_call(rt: &HostRuntime, call: Call<'_>) -> io::Result<()> {
-    match call {
-        Call::Feed(sample) => print!(rt; "  feed {sample:?}: "),
-        Call::Play(bytes) => print!(rt; "  play {bytes:?}: "),
-        Call::NewRecord => print!(rt; "  new record: "),
-        Call::Verdict => print!(rt; "  verdict: "),
-    }
-}
-
-fn tell_refused_sample(rt: &HostRuntime, fault: WatchFault) -> io::Result<()> {
-    println!(rt;
-        "refused with {}, after {} accepted",
-        fault.number(),
-        fault.count
-    )
-}
-
-fn tell_refused_record(rt: &HostRuntime, refusal: PlayFault) -> io::Result<()> {
-    match refusal {
-        PlayFault::Framing => println!(rt; "refused with {}", refusal.number()),
-        PlayFault::Sample { place, fault } => {
-            print!(rt; "at place {place} ")?;
-            tell_refused_sample(rt, fault)
+impl fmt::Display for Told<'_> {
+    fn fmt<W: fmt::Write>(&self, f: &mut fmt::Formatter<W>) -> fmt::Result {
+        match self.0 {
+            Call::Feed(sample) => write!(f, "feed {sample:?}: ")?,
+            Call::Play(bytes) => write!(f, "play {bytes:?}: ")?,
+            Call::NewRecord => write!(f, "new record: ")?,
+            Call::Verdict => write!(f, "verdict: ")?,
+        }
+        match self.1 {
+            Answer::Fed(Ok(count)) => write!(f, "accepted, {count} so far"),
+            Answer::Fed(Err(fault)) => write!(f, "{}", Refused(fault)),
+            Answer::Played(Ok(count)) => write!(f, "played, {count} accepted"),
+            Answer::Played(Err(PlayFault::Framing)) => {
+                write!(f, "refused with {}", PlayFault::Framing.number())
+            }
+            Answer::Played(Err(PlayFault::Sample { place, fault })) => {
+                write!(f, "at place {place} {}", Refused(fault))
+            }
+            Answer::Begun => write!(f, "begun"),
+            Answer::Judged(kept) => write!(f, "{}", yes_or_no(kept)),
         }
     }
+}
+
+// What keeps a watch from taking a sample.
+#[derive(Clone, Copy)]
+struct Refused(WatchFault);
+
+impl fmt::Display for Refused {
+    fn fmt<W: fmt::Write>(&self, f: &mut fmt::Formatter<W>) -> fmt::Result {
+        let number = self.0.number();
+        write!(f, "refused with {number}, after {} accepted", self.0.count)
+    }
+}
+
+pub fn tell_answer(rt: &HostRuntime, call: Call<'_>, answer: Answer) -> io::Result<()> {
+    println!(rt; "  {}", Told(call, answer))
 }
 
 // Feeds samples of one byte in order, and tells each answer and the verdict after them.
@@ -56,11 +59,10 @@ pub fn tell_feeding<E: Encoder, R: Pattern>(
     watch: &mut Watch<E, R>,
     samples: &[u8],
 ) -> io::Result<()> {
-    for i in 0..samples.len() {
-        let sample = &samples[i..i + 1];
+    for sample in samples.chunks(1) {
         tell_answer(rt, Call::Feed(sample), Answer::Fed(watch.feed(sample)))?;
     }
-    println!(rt; "  verdict: {}", yes_or_no(watch.verdict()))
+    tell_answer(rt, Call::Verdict, Answer::Judged(watch.verdict()))
 }
 
 // Begins a new record, and feeds it.
@@ -70,6 +72,6 @@ pub fn tell_record<E: Encoder, R: Pattern>(
     samples: &[u8],
 ) -> io::Result<()> {
     watch.new_record();
-    println!(rt; "  new record: begun")?;
+    tell_answer(rt, Call::NewRecord, Answer::Begun)?;
     tell_feeding(rt, watch, samples)
 }

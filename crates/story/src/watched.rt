@@ -8,6 +8,7 @@ ghost use Rattle.story.specs.Contacted.{story_codes};
 use crate::rule;
 use crate::telling::tell_answer;
 use crate::trouble::Trouble;
+use kinds::setup;
 use runs::{Answer, Call, run};
 use std::alloc::Global;
 
@@ -34,8 +35,8 @@ fn answers(heap: Global, calls: &[Call<'_>]) -> Result<Vec<Answer>, Trouble>
     ensures { IfOk result (λ v. v.items ≡ answers_by story_codes 1 (accepts_over (between_mark 1 2) (λ l. false) (never_by 0)) [] calls.now) }
 {
     let contacts = rule::contacts()?;
-    let between = rule::between(rule::BREAK, rule::THREADED)?;
-    let never = rule::never(rule::DRIVEN)?;
+    let between = setup::between(rule::BREAK, rule::THREADED)?;
+    let never = setup::never(rule::DRIVEN)?;
     Ok(run(heap, contacts, between, never, calls)?)
 }
 
