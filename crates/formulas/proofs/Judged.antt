@@ -23,16 +23,16 @@ joined a b = (λ e. both a b ∙ e, λ e. sym (both a b) ∙ e)
 
 -- what is judged by the meaning of the pattern m is judged by its formula too
 pub settled :
-    {n m : NamedPattern} {K in_range : Type 0} (reads : K → List ℕ → Bool) (l : List ℕ) (s : Result K SettingRefusal) (r : Result Bool SettingRefusal)
+    {n m : NamedPattern} {K in_range : Type 0} (reads left : K → List ℕ → Bool) (l : List ℕ) (s : Result K SettingRefusal) (r : Result Bool SettingRefusal)
     → n ≡ m
     → Decides (numbered (conditions_of m)) in_range
-    → SetUp s in_range (λ x. reads x ≡ meaning_of m)
+    → SetUp s in_range (λ x. (reads x ≡ meaning_of m) × (left x ≡ meaning_of m))
     → MatchResult s (λ p. r ≡ Ok (reads p l)) (λ e. r ≡ Err e)
     → (r ≡ judged n l) × IfOk r (λ b. Decides b (Satisfies (formula_of n) l))
-settled {n} {m} {K} {in_range} reads l s r e t u v = (value, by_formula)
+settled {n} {m} {K} {in_range} reads left l s r e t u v = (value, by_formula)
   where
-    taken : (b : Bool) → Decides b in_range → (s : Result K SettingRefusal) → SetUp s in_range (λ x. reads x ≡ meaning_of m) → MatchResult s (λ p. r ≡ Ok (reads p l)) (λ e. r ≡ Err e) → r ≡ judged_if b (meaning_of m l)
-    taken b t (Ok p) u v = rw (t.1 u.0) (v ∙ ap (λ f. Ok (f l)) u.1)
+    taken : (b : Bool) → Decides b in_range → (s : Result K SettingRefusal) → SetUp s in_range (λ x. (reads x ≡ meaning_of m) × (left x ≡ meaning_of m)) → MatchResult s (λ p. r ≡ Ok (reads p l)) (λ e. r ≡ Err e) → r ≡ judged_if b (meaning_of m l)
+    taken b t (Ok p) u v = rw (t.1 u.0) (v ∙ ap (λ f. Ok (f l)) u.1.0)
     taken true t (Err e) u v = absurd (u.0 (t.0 refl))
     taken false t (Err e) u v = v ∙ ap Err u.1
 

@@ -5,7 +5,10 @@ ghost use Rattle.formulas.specs.Named.{formula_of, judged};
 use crate::named::NamedPattern;
 use kinds::setup;
 use layer::judging::judge;
+use patterns::always::Always;
+use patterns::eventually::Eventually;
 use patterns::form::Form;
+use patterns::never::Never;
 use rules::pattern::Pattern;
 use rules::refusal::SettingRefusal;
 
@@ -16,13 +19,13 @@ pub fn judge_named(named: NamedPattern, words: &[u16]) -> Result<bool, SettingRe
     ensures formula { IfOk result (λ b. Decides b (Satisfies (formula_of named) words.now)) }
 {
     match named {
-        NamedPattern::Always { p } => judge_by(setup::always(p), words),
-        NamedPattern::Never { p } => judge_by(setup::never(p), words),
+        NamedPattern::Always { p } => judge_by::<Always>(setup::throughout(p), words),
+        NamedPattern::Never { p } => judge_by::<Never>(setup::throughout(p), words),
         NamedPattern::Eventually { p } => {
-            judge_by(setup::eventually(Form::AtLeast, p, 1), words)
+            judge_by::<Eventually>(setup::counting(Form::AtLeast, p, 1), words)
         }
         NamedPattern::AtMostTwice { p } => {
-            judge_by(setup::eventually(Form::AtMost, p, 2), words)
+            judge_by::<Eventually>(setup::counting(Form::AtMost, p, 2), words)
         }
         NamedPattern::Precedes { p, s } => judge_by(setup::precedes(&[p], &[s]), words),
         NamedPattern::PairPrecedes { p1, p2, s } => {
