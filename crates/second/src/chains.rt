@@ -1,42 +1,39 @@
-use crate::words::stands;
+use crate::words::has;
 
-// The chain's conditions hold in turn at rising places, of which `from` is the first and `to` the final one.
-pub fn spans(chain: &[u8], words: &[u16], from: usize, to: usize) -> bool {
-    let Some(condition) = chain.first() else {
+// The chain's conditions hold in turn at rising places, of which the first is the list's first place and the final one
+// its last.
+pub fn spans(chain: &[u8], words: &[u16]) -> bool {
+    let (Some((condition, others)), Some((word, rest))) = (chain.split_first(), words.split_first())
+    else {
         return false;
     };
-    if !stands(words, from, *condition) {
+    if !has(*word, *condition) {
         return false;
     }
-    if chain.len() == 1 {
-        return from == to;
+    if others.is_empty() {
+        return rest.is_empty();
     }
-    for next in 0..words.len() {
-        if from < next && next <= to && spans(&chain[1..], words, next, to) {
+    for at in 0..rest.len() {
+        if spans(others, &rest[at..]) {
             return true;
         }
     }
     false
 }
 
-// The chain occurs with its first place not before `from` and its final place not after `to`.
-pub fn occurs(chain: &[u8], words: &[u16], from: usize, to: usize) -> bool {
-    for first in 0..words.len() {
-        for last in 0..words.len() {
-            if from <= first && last <= to && spans(chain, words, first, last) {
-                return true;
-            }
-        }
-    }
-    false
+// What begins at the earliest place at which the chain can be complete, where it begins at the list's first place.
+pub fn completed<'a>(chain: &[u8], words: &'a [u16]) -> Option<&'a [u16]> {
+    let place = (0..words.len()).find(|last| {
+        words.get(..=*last).is_some_and(|front| spans(chain, front))
+    })?;
+    words.get(place..)
 }
 
-// The earliest place at which the chain can be complete, where it begins at this one.
-pub fn completed(chain: &[u8], words: &[u16], from: usize) -> Option<usize> {
-    for last in 0..words.len() {
-        if spans(chain, words, from, last) {
-            return Some(last);
-        }
-    }
-    None
+// The chain occurs somewhere in the list.
+pub fn occurs(chain: &[u8], words: &[u16]) -> bool {
+    (0..words.len()).any(|first| {
+        words
+            .get(first..)
+            .is_some_and(|rest| completed(chain, rest).is_some())
+    })
 }

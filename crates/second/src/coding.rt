@@ -1,27 +1,53 @@
-use crate::words::has;
+use crate::refusal::{Stop, Why};
+use crate::words::{bit, has};
 use std::alloc::Global;
 
+// How many terms a condition can have.
+const MOST_TERMS: usize = 8;
+
+// What a term asks of a sample, within what is set.
+pub trait Ask {
+    type Limit: Copy;
+
+    type Sample: Copy;
+
+    fn is_fair(&self, limit: Self::Limit) -> bool;
+
+    fn fits(&self, sample: Self::Sample) -> bool;
+}
+
+// A term: a condition, and what it asks of a sample.
 #[derive(Clone, Copy, Debug)]
-pub struct ContactTerm {
+pub struct Term<T> {
     pub condition: u8,
+    pub ask: T,
+}
+
+#[derive(Clone, Copy, Debug)]
+pub struct ContactAsk {
     pub care: u8,
     pub want: u8,
 }
 
 #[derive(Clone, Copy, Debug)]
-pub struct EventTerm {
-    pub condition: u8,
+pub struct EventAsk {
     pub code: u8,
     pub low: i32,
     pub high: i32,
+}
+
+#[derive(Clone, Copy)]
+pub struct Event {
+    code: u8,
+    hundredths: i32,
 }
 
 // A setting of an encoder.
 #[derive(Clone, Copy, Debug)]
 pub enum Setting {
     Contacts(u8),
-    ContactTerm(ContactTerm),
-    EventTerm(EventTerm),
+    ContactTerm(Term<ContactAsk>),
+    EventTerm(Term<EventAsk>),
     Width(u8),
 }
 
@@ -32,40 +58,45 @@ pub enum CodingKind {
     Letters,
 }
 
-// An encoder: its kind, and all that was set, in the order in which it came.
+// An encoder, with its terms in the order in which they came.
 #[derive(Drop)]
-pub struct Coding {
-    pub kind: CodingKind,
-    contacts: u8,
-    width: u8,
-    contact_terms: Vec<ContactTerm>,
-    event_terms: Vec<EventTerm>,
+pub enum Coding {
+    Contacts {
+        contacts: u8,
+        terms: Vec<Term<ContactAsk>>,
+    },
+    Events {
+        terms: Vec<Term<EventAsk>>,
+    },
+    Letters {
+        width: u8,
+    },
 }
 
 fn contact(byte: u8, k: u8) -> bool {
     has(u16::from(byte), k)
 }
 
-impl ContactTerm {
+// A bit of the byte is set that is not among the lowest ones.
+fn has_above(byte: u8, lowest: u8) -> bool {
+    (lowest..8).any(|k| contact(byte, k))
+}
+
+impl Ask for ContactAsk {
+    // the number of contacts
+    type Limit = u8;
+
+    type Sample = u8;
+
     // Care speaks of contacts that there are, and want of contacts under care.
-    fn is_fair(self, contacts: u8) -> bool {
-        for k in 0u8..8 {
-            let cared = contact(self.care, k);
-            if cared && k >= contacts || contact(self.want, k) && !cared {
-                return false;
-            }
-        }
-        true
+    fn is_fair(&self, contacts: u8) -> bool {
+        !has_above(self.care, contacts)
+            && (0u8..8).all(|k| contact(self.care, k) || !contact(self.want, k))
     }
 
     // Each contact under care stands as want has it.
-    fn fits(self, byte: u8) -> bool {
-        for k in 0u8..8 {
-            if contact(self.care, k) && contact(byte, k) != contact(self.want, k) {
-                return false;
-            }
-        }
-        true
+    fn fits(&self, byte: u8) -> bool {
+        (0u8..8).all(|k| !contact(self.care, k) || contact(byte, k) == contact(self.want, k))
     }
 }
 
@@ -79,147 +110,128 @@ fn reading(high: u8, low: u8) -> i32 {
     if high < 128 { plain } else { plain - 65_536 }
 }
 
+impl Ask for EventAsk {
+    type Limit = ();
+
+    type Sample = Event;
+
+    fn is_fair(&self, _none: ()) -> bool {
+        self.low <= self.high && is_reading(self.low) && is_reading(self.high)
+    }
+
+    fn fits(&self, event: Event) -> bool {
+        self.code == event.code && self.low <= event.hundredths && event.hundredths <= self.high
+    }
+}
+
+fn add<T: Ask + Copy>(
+    terms: &mut Vec<Term<T>>,
+    term: Term<T>,
+    limit: T::Limit,
+) -> Result<(), Stop> {
+    if term.condition > 15 {
+        return Err(Stop::from(Why::Range));
+    }
+    if !term.ask.is_fair(limit) {
+        return Err(Stop::from(Why::Term));
+    }
+    let same = terms
+        .iter()
+        .filter(|other| other.condition == term.condition)
+        .count();
+    if same >= MOST_TERMS {
+        return Err(Stop::from(Why::ManyTerms));
+    }
+    terms.push(term)?;
+    Ok(())
+}
+
+// The word of the conditions of which a term asks no more than the sample is.
+fn word_of<T: Ask>(terms: &[Term<T>], sample: T::Sample) -> u16 {
+    terms
+        .iter()
+        .filter(|term| term.ask.fits(sample))
+        .fold(0, |word, term| word | bit(term.condition))
+}
+
 impl Coding {
     pub fn new(heap: Global, kind: CodingKind) -> Coding {
-        Coding {
-            kind,
-            contacts: 8,
-            width: 0,
-            contact_terms: Vec::new(heap),
-            event_terms: Vec::new(heap),
+        match kind {
+            CodingKind::Contacts => Coding::Contacts {
+                contacts: 8,
+                terms: Vec::new(heap),
+            },
+            CodingKind::Events => Coding::Events {
+                terms: Vec::new(heap),
+            },
+            CodingKind::Letters => Coding::Letters { width: 0 },
         }
     }
 
     pub fn size(&self) -> usize {
-        match self.kind {
-            CodingKind::Contacts | CodingKind::Letters => 1,
-            CodingKind::Events => 3,
+        match self {
+            Coding::Contacts { .. } | Coding::Letters { .. } => 1,
+            Coding::Events { .. } => 3,
         }
     }
 
-    // Takes a setting, or gives the number of its refusal.
-    pub fn set(&mut self, heap: Global, setting: Setting) -> Option<u8> {
-        match setting {
-            Setting::Contacts(contacts) => {
-                if contacts == 0 || contacts > 8 {
-                    return Some(4);
+    // Takes a setting of its kind.
+    pub fn set(&mut self, setting: Setting) -> Result<(), Stop> {
+        match self {
+            Coding::Contacts { contacts, terms } => match setting {
+                Setting::Contacts(number) => {
+                    if number == 0 || number > 8 {
+                        return Err(Stop::from(Why::Range));
+                    }
+                    *contacts = number;
+                    terms.clear();
                 }
-                self.contacts = contacts;
-                self.contact_terms = Vec::new(heap);
-            }
-            Setting::Width(width) => {
-                if width > 6 {
-                    return Some(4);
+                Setting::ContactTerm(term) => add(terms, term, *contacts)?,
+                _ => {}
+            },
+            Coding::Events { terms } => {
+                if let Setting::EventTerm(term) = setting {
+                    add(terms, term, ())?;
                 }
-                self.width = width;
             }
-            Setting::ContactTerm(term) => return self.add_contact_term(term),
-            Setting::EventTerm(term) => return self.add_event_term(term),
+            Coding::Letters { width } => {
+                if let Setting::Width(number) = setting {
+                    if number > 6 {
+                        return Err(Stop::from(Why::Range));
+                    }
+                    *width = number;
+                }
+            }
         }
-        None
+        Ok(())
     }
 
-    fn add_contact_term(&mut self, term: ContactTerm) -> Option<u8> {
-        if term.condition > 15 {
-            return Some(4);
-        }
-        if !term.is_fair(self.contacts) {
-            return Some(5);
-        }
-        let mut same = 0u8;
-        for other in self.contact_terms.iter() {
-            if other.condition == term.condition {
-                same = same.saturating_add(1);
+    // The word of a part of a record.
+    pub fn word(&self, part: &[u8]) -> Result<u16, Why> {
+        match (self, part) {
+            (Coding::Contacts { contacts, terms }, [byte]) => {
+                if has_above(*byte, *contacts) {
+                    return Err(Why::Contact);
+                }
+                Ok(word_of(terms, *byte))
             }
-        }
-        if same >= 8 {
-            return Some(6);
-        }
-        let _ = self.contact_terms.push(term);
-        None
-    }
-
-    fn add_event_term(&mut self, term: EventTerm) -> Option<u8> {
-        if term.condition > 15 {
-            return Some(4);
-        }
-        if term.low > term.high || !is_reading(term.low) || !is_reading(term.high) {
-            return Some(5);
-        }
-        let mut same = 0u8;
-        for other in self.event_terms.iter() {
-            if other.condition == term.condition {
-                same = same.saturating_add(1);
+            (Coding::Letters { width }, [byte]) => {
+                if has_above(*byte, *width) {
+                    return Err(Why::Letter);
+                }
+                Ok(u16::from(*byte))
             }
-        }
-        if same >= 8 {
-            return Some(6);
-        }
-        let _ = self.event_terms.push(term);
-        None
-    }
-
-    // The word of a part, or the number of its refusal.
-    pub fn word(&self, part: &[u8]) -> Result<u16, u8> {
-        if part.len() != self.size() {
-            return Err(1);
-        }
-        match (self.kind, part) {
-            (CodingKind::Contacts, [byte]) => self.contact_word(*byte),
-            (CodingKind::Letters, [byte]) => self.letter_word(*byte),
-            (CodingKind::Events, [code, high, low]) => {
-                self.event_word(*code, reading(*high, *low))
+            (Coding::Events { terms }, [code, high, low]) => {
+                let event = Event {
+                    code: *code,
+                    hundredths: reading(*high, *low),
+                };
+                if !is_reading(event.hundredths) {
+                    return Err(Why::Reading);
+                }
+                Ok(word_of(terms, event))
             }
-            _ => Err(1),
+            _ => Err(Why::SampleSize),
         }
     }
-
-    fn contact_word(&self, byte: u8) -> Result<u16, u8> {
-        for k in 0u8..8 {
-            if k >= self.contacts && contact(byte, k) {
-                return Err(2);
-            }
-        }
-        let mut word = 0;
-        for term in self.contact_terms.iter() {
-            if term.fits(byte) {
-                word = with(word, term.condition);
-            }
-        }
-        Ok(word)
-    }
-
-    fn letter_word(&self, byte: u8) -> Result<u16, u8> {
-        for k in 0u8..8 {
-            if k >= self.width && contact(byte, k) {
-                return Err(17);
-            }
-        }
-        Ok(u16::from(byte))
-    }
-
-    fn event_word(&self, code: u8, hundredths: i32) -> Result<u16, u8> {
-        if !is_reading(hundredths) {
-            return Err(3);
-        }
-        let mut word = 0;
-        for term in self.event_terms.iter() {
-            if term.code == code && term.low <= hundredths && hundredths <= term.high {
-                word = with(word, term.condition);
-            }
-        }
-        Ok(word)
-    }
-}
-
-// The word with the bit of a condition set.
-fn with(word: u16, condition: u8) -> u16 {
-    if has(word, condition) {
-        return word;
-    }
-    let mut bit: u16 = 1;
-    for _ in 0..condition {
-        bit = bit.saturating_mul(2);
-    }
-    word.saturating_add(bit)
 }

@@ -1,32 +1,37 @@
 use crate::chains::{completed, occurs};
+use crate::refusal::{Refusal, Why};
 use crate::table::TableText;
-use crate::words::stands;
+use crate::text::Text;
+use crate::words::{any_has, count_of, has};
+use rules::mark::Mark;
+
+#[derive(Clone, Copy, Debug)]
+pub enum Form {
+    Exactly,
+    AtLeast,
+    AtMost,
+}
 
 // How many are asked for.
 #[derive(Clone, Copy, Debug)]
-pub enum Times {
-    Exactly(u16),
-    AtLeast(u16),
-    AtMost(u16),
+pub struct Times {
+    pub form: Form,
+    pub number: u16,
 }
 
 impl Times {
     fn suits(self, count: usize) -> bool {
-        match self {
-            Times::Exactly(t) => count == usize::from(t),
-            Times::AtLeast(t) => count >= usize::from(t),
-            Times::AtMost(t) => count <= usize::from(t),
+        let number = usize::from(self.number);
+        match self.form {
+            Form::Exactly => count == number,
+            Form::AtLeast => count >= number,
+            Form::AtMost => count <= number,
         }
     }
 
-    // The same form, as many times as the other says.
-    fn as_many(self, other: Times) -> Times {
-        let (Times::Exactly(t) | Times::AtLeast(t) | Times::AtMost(t)) = other;
-        match self {
-            Times::Exactly(_) => Times::Exactly(t),
-            Times::AtLeast(_) => Times::AtLeast(t),
-            Times::AtMost(_) => Times::AtMost(t),
-        }
+    // The same form, so many times.
+    fn with(self, number: u16) -> Times {
+        Times { number, ..self }
     }
 }
 
@@ -44,131 +49,106 @@ pub enum PatternText<'a> {
     Table(TableText<'a>),
 }
 
-// How many places have the condition, without those that follow a place with it if only rises count.
-fn count_places(words: &[u16], condition: u8, rises: bool) -> usize {
-    let mut count: usize = 0;
-    for at in 0..words.len() {
-        let follows = at > 0 && stands(words, at - 1, condition);
-        if stands(words, at, condition) && !(rises && follows) {
-            count = count.saturating_add(1);
-        }
-    }
-    count
-}
-
-// The first place with the condition.
-fn first_place(words: &[u16], condition: u8) -> Option<usize> {
-    for at in 0..words.len() {
-        if stands(words, at, condition) {
-            return Some(at);
-        }
-    }
-    None
+// How many words have the condition where the word before has not.
+fn count_rises(words: &[u16], condition: u8) -> usize {
+    let first = count_of(words.get(..1).unwrap_or(&[]), condition);
+    let later = words
+        .windows(2)
+        .filter(|pair| match pair {
+            [before, word] => has(*word, condition) && !has(*before, condition),
+            _ => false,
+        })
+        .count();
+    first.saturating_add(later)
 }
 
 fn precedes(first: &[u8], second: &[u8], words: &[u16]) -> bool {
-    if !occurs(second, words, 0, words.len()) {
+    if !occurs(second, words) {
         return true;
     }
-    let Some(begin) = second.first() else {
-        return false;
-    };
-    match first_place(words, *begin) {
-        Some(place) => occurs(first, words, 0, place),
-        None => false,
-    }
+    // The first chain is to be complete where the second one can first begin.
+    let begin = second
+        .first()
+        .and_then(|begin| words.iter().position(|word| has(*word, *begin)));
+    begin
+        .and_then(|place| words.get(..=place))
+        .is_some_and(|front| occurs(first, front))
 }
 
 fn responds(stimulus: &[u8], response: &[u8], words: &[u16]) -> bool {
-    for opening in 0..words.len() {
-        if let Some(end) = completed(stimulus, words, opening) {
-            if !occurs(response, words, end, words.len()) {
-                return false;
-            }
-        }
-    }
-    true
+    (0..words.len())
+        .filter_map(|opening| completed(stimulus, words.get(opening..)?))
+        .all(|rest| occurs(response, rest))
 }
 
 fn is_chain(chain: &[u8]) -> bool {
-    if chain.is_empty() || chain.len() > 4 {
-        return false;
-    }
-    for condition in chain {
-        if *condition > 15 {
-            return false;
-        }
-    }
-    true
+    !chain.is_empty() && chain.len() <= 4 && chain.iter().all(|condition| *condition <= 15)
 }
 
 impl<'a> PatternText<'a> {
-    // The number of the refusal, where these settings are not taken.
-    pub fn refusal(&self) -> Option<u8> {
-        let fine = match *self {
+    // The settings are in their ranges.
+    fn is_in_range(&self) -> bool {
+        match *self {
             PatternText::Always(c) | PatternText::Never(c) => c <= 15,
             PatternText::Eventually(_, c) | PatternText::Precisely(_, c) => c <= 15,
             PatternText::Precedes(first, second) => is_chain(first) && is_chain(second),
             PatternText::Responds(stimulus, response) => is_chain(stimulus) && is_chain(response),
-            PatternText::Table(table) => match table.wrong() {
-                Some(wrong) => return Some(wrong.number),
-                None => true,
-            },
-        };
-        if fine { None } else { Some(4) }
-    }
-
-    // The bytes of a table's pattern.
-    pub fn table(self) -> &'a [u8] {
-        match self {
-            PatternText::Table(table) => table.bytes,
-            _ => &[],
+            PatternText::Table(_) => true,
         }
     }
+}
 
-    // A new pattern of the kind and the form.
-    pub fn unset(self) -> PatternText<'a> {
-        let none = Times::Exactly(0);
+impl<'a> Text for PatternText<'a> {
+    fn check(&self) -> Result<(), Refusal> {
+        if let PatternText::Table(table) = self {
+            return table.check();
+        }
+        if !self.is_in_range() {
+            return Err(Refusal::from(Why::Range));
+        }
+        Ok(())
+    }
+
+    fn unset(self) -> PatternText<'a> {
         match self {
             PatternText::Always(_) => PatternText::Always(0),
             PatternText::Never(_) => PatternText::Never(0),
-            PatternText::Eventually(times, _) => PatternText::Eventually(times.as_many(none), 0),
-            PatternText::Precisely(times, _) => PatternText::Precisely(times.as_many(none), 0),
+            PatternText::Eventually(times, _) => PatternText::Eventually(times.with(0), 0),
+            PatternText::Precisely(times, _) => PatternText::Precisely(times.with(0), 0),
             PatternText::Precedes(_, _) => PatternText::Precedes(&[0], &[0]),
             PatternText::Responds(_, _) => PatternText::Responds(&[0], &[0]),
             PatternText::Table(table) => PatternText::Table(table.built_in()),
         }
     }
 
-    // The pattern once it was given the settings of another of its kind, which starts it; or none, where it stays as it
-    // was. A number of times is taken even where the condition beside it is refused.
-    pub fn set(self, text: PatternText<'a>) -> Option<PatternText<'a>> {
-        let refused = text.refusal().is_some();
-        match (self, text) {
+    // The form stays, and a number of times is taken even where the condition beside it is refused.
+    fn given(self, other: PatternText<'a>) -> Option<PatternText<'a>> {
+        let taken = other.check().is_ok();
+        match (self, other) {
             (PatternText::Eventually(old, c), PatternText::Eventually(times, new)) => {
-                let c = if refused { c } else { new };
-                Some(PatternText::Eventually(old.as_many(times), c))
+                let c = if taken { new } else { c };
+                Some(PatternText::Eventually(old.with(times.number), c))
             }
             (PatternText::Precisely(old, c), PatternText::Precisely(times, new)) => {
-                let c = if refused { c } else { new };
-                Some(PatternText::Precisely(old.as_many(times), c))
+                let c = if taken { new } else { c };
+                Some(PatternText::Precisely(old.with(times.number), c))
             }
-            _ => { if refused { None } else { Some(text) } }
+            _ => { if taken { Some(other) } else { None } }
         }
     }
 
-    // A new pattern of the kind, given these settings.
-    pub fn held(self) -> PatternText<'a> {
-        self.unset().set(self).unwrap_or(self.unset())
+    // A pattern marks no words.
+    fn mark(&self, _words: &[u16]) -> Option<Mark> {
+        None
     }
 
     // Whether the list of words is accepted.
-    pub fn accepts(&self, words: &[u16]) -> bool {
+    fn says(&self, words: &[u16]) -> bool {
         match *self {
-            PatternText::Always(c) => count_places(words, c, false) == words.len(),
-            PatternText::Never(c) => count_places(words, c, false) == 0,
-            PatternText::Eventually(times, c) => times.suits(count_places(words, c, true)),
-            PatternText::Precisely(times, c) => times.suits(count_places(words, c, false)),
+            PatternText::Always(c) => words.iter().all(|word| has(*word, c)),
+            PatternText::Never(c) => !any_has(words, c),
+            PatternText::Eventually(times, c) => times.suits(count_rises(words, c)),
+            PatternText::Precisely(times, c) => times.suits(count_of(words, c)),
             PatternText::Precedes(first, second) => precedes(first, second, words),
             PatternText::Responds(stimulus, response) => responds(stimulus, response, words),
             PatternText::Table(table) => table.flag(table.state_after(words)),

@@ -1,7 +1,9 @@
+use crate::refusal::{Refusal, Why};
 use crate::table::TableText;
-use crate::words::stands;
+use crate::text::Text;
+use crate::words::{any_has, has};
 use rules::mark::Mark;
-use std::alloc::Global;
+use std::alloc::{AllocError, Global};
 
 // A scope with its settings, in the words of the rules.
 #[derive(Clone, Copy, Debug)]
@@ -15,70 +17,33 @@ pub enum ScopeText<'a> {
     Table(TableText<'a>),
 }
 
-// Some place up to `to` has the condition.
-fn seen(words: &[u16], to: usize, condition: u8) -> bool {
-    for at in 0..words.len() {
-        if at <= to && stands(words, at, condition) {
-            return true;
-        }
-    }
-    false
-}
-
-// Some place up to `to` opens, and none after it up to `to` closes.
-fn inside(words: &[u16], to: usize, opening: u8, closing: u8) -> bool {
-    for at in 0..words.len() {
-        if at <= to && stands(words, at, opening) && !closed_since(words, at, to, closing) {
-            return true;
-        }
-    }
-    false
-}
-
-// Some place from `from` up to `to` closes.
-fn closed_since(words: &[u16], from: usize, to: usize, closing: u8) -> bool {
-    for at in 0..words.len() {
-        if from <= at && at <= to && stands(words, at, closing) {
-            return true;
-        }
-    }
-    false
+// Some word opens, and none from it on closes.
+fn is_open(words: &[u16], opening: u8, closing: u8) -> bool {
+    words.iter().enumerate().any(|(at, word)| {
+        has(*word, opening) && !words.iter().skip(at).any(|later| has(*later, closing))
+    })
 }
 
 fn in_if(inside: bool) -> Mark {
     if inside { Mark::In } else { Mark::Out }
 }
 
-impl<'a> ScopeText<'a> {
-    // The number of the refusal, where these settings are not taken.
-    pub fn refusal(&self) -> Option<u8> {
+impl<'a> Text for ScopeText<'a> {
+    fn check(&self) -> Result<(), Refusal> {
         let fine = match *self {
             ScopeText::Globally => true,
             ScopeText::Before(c) | ScopeText::After(c) => c <= 15,
             ScopeText::Between(q, r) | ScopeText::AfterUnless(q, r) => q <= 15 && r <= 15,
-            ScopeText::Table(table) => match table.wrong() {
-                Some(wrong) => return Some(wrong.number),
-                None => true,
-            },
+            ScopeText::Table(table) => return table.check(),
         };
-        if fine { None } else { Some(4) }
-    }
-
-    // Globally has no settings; every other kind starts when it is given some.
-    pub fn can_be_set(self) -> bool {
-        !matches!(self, ScopeText::Globally)
-    }
-
-    // The bytes of a table's scope.
-    pub fn table(self) -> &'a [u8] {
-        match self {
-            ScopeText::Table(table) => table.bytes,
-            _ => &[],
+        if fine {
+            Ok(())
+        } else {
+            Err(Refusal::from(Why::Range))
         }
     }
 
-    // A new scope of the kind.
-    pub fn unset(self) -> ScopeText<'a> {
+    fn unset(self) -> ScopeText<'a> {
         match self {
             ScopeText::Globally => self,
             ScopeText::Before(_) => ScopeText::Before(0),
@@ -89,94 +54,81 @@ impl<'a> ScopeText<'a> {
         }
     }
 
-    // A new scope of the kind, given these settings: what is refused stays as it was.
-    pub fn held(self) -> ScopeText<'a> {
-        if self.refusal().is_none() {
-            return self;
-        }
-        self.unset()
+    // Globally has no settings; every other kind starts when it is given some.
+    fn given(self, other: ScopeText<'a>) -> Option<ScopeText<'a>> {
+        let set = !matches!(other, ScopeText::Globally) && other.check().is_ok();
+        if set { Some(other) } else { None }
     }
 
-    // The mark of the word at a place.
-    pub fn mark(&self, words: &[u16], at: usize) -> Mark {
-        match *self {
+    fn mark(&self, words: &[u16]) -> Option<Mark> {
+        Some(match *self {
             ScopeText::Globally => Mark::In,
-            ScopeText::Before(c) => in_if(!seen(words, at, c)),
-            ScopeText::After(c) => in_if(seen(words, at, c)),
-            ScopeText::Between(q, r) => in_if(inside(words, at, q, r)),
-            ScopeText::AfterUnless(q, r) => in_if(inside(words, at, q, r)),
-            ScopeText::Table(table) => table.mark(words, at),
-        }
+            ScopeText::Before(c) => in_if(!any_has(words, c)),
+            ScopeText::After(c) => in_if(any_has(words, c)),
+            ScopeText::Between(q, r) | ScopeText::AfterUnless(q, r) => in_if(is_open(words, q, r)),
+            ScopeText::Table(table) => table.mark(words),
+        })
     }
 
     // The yes or no after the list.
-    pub fn answer(&self, words: &[u16]) -> bool {
+    fn says(&self, words: &[u16]) -> bool {
         match *self {
             ScopeText::Globally | ScopeText::After(_) | ScopeText::AfterUnless(_, _) => true,
             ScopeText::Before(_) | ScopeText::Between(_, _) => false,
             ScopeText::Table(table) => table.flag(table.state_after(words)),
         }
     }
+}
 
-    // The first and the final place of each judged stretch, found by trying all pairs of places.
-    pub fn judged(&self, heap: Global, words: &[u16]) -> Vec<(usize, usize)> {
-        let mut marks = Vec::new(heap);
-        for at in 0..words.len() {
-            let _ = marks.push(self.mark(words, at));
-        }
-        let says = self.answer(words);
+impl<'a> ScopeText<'a> {
+    // The judged stretches, found by trying all pairs of places.
+    pub fn judged<'w>(&self, heap: Global, words: &'w [u16]) -> Result<Vec<&'w [u16]>, AllocError> {
+        let marks: Vec<Mark> = (0..words.len())
+            .filter_map(|at| self.mark(words.get(..=at)?))
+            .collect(heap)?;
+        let says = self.says(words);
         let mut found = Vec::new(heap);
-        for i in 0..marks.len() {
-            for j in i..marks.len() {
-                if is_block(&marks, i, j)
-                    && (is_closed(&marks, j) || (says && is_unclosed(&marks, j)))
+        for first in 0..marks.len() {
+            let (before, from) = marks.split_at(first);
+            for last in 0..from.len() {
+                let (block, after) = from.split_at(last + 1);
+                if is_block(before, block)
+                    && (is_closed(block, after) || says && is_unclosed(block, after))
                 {
-                    let _ = found.push((i, j));
+                    found.extend(words.get(first..=first + last))?;
                 }
             }
         }
-        found
+        Ok(found)
     }
 }
 
-fn is_at(marks: &[Mark], at: usize, mark: Mark) -> bool {
-    match marks.get(at) {
-        Some(there) => *there == mark,
-        None => false,
+// A block can begin after the marks before it: with anew, or with in or last where no stretch is open.
+fn begins(before: &[Mark], first: Mark) -> bool {
+    let shut = matches!(before.last(), None | Some(Mark::Out | Mark::Last));
+    match first {
+        Mark::Anew => true,
+        Mark::In | Mark::Last => shut,
+        Mark::Out => false,
     }
 }
 
-// Place i can begin a block: it is anew, or it is in or last where no stretch is open.
-fn begins(marks: &[Mark], i: usize) -> bool {
-    if is_at(marks, i, Mark::Anew) {
-        return true;
-    }
-    let shut = i == 0 || is_at(marks, i - 1, Mark::Out) || is_at(marks, i - 1, Mark::Last);
-    shut && (is_at(marks, i, Mark::In) || is_at(marks, i, Mark::Last))
+// The marks are those of a block after the marks before it: none is out, last is the final one at most, and anew the
+// first one.
+fn is_block(before: &[Mark], marks: &[Mark]) -> bool {
+    let begun = marks.first().is_some_and(|first| begins(before, *first));
+    begun
+        && marks.iter().all(|mark| *mark != Mark::Out)
+        && marks.iter().rev().skip(1).all(|mark| *mark != Mark::Last)
+        && marks.iter().skip(1).all(|mark| *mark != Mark::Anew)
 }
 
-// The places i to j are a block.
-fn is_block(marks: &[Mark], i: usize, j: usize) -> bool {
-    if !begins(marks, i) {
-        return false;
-    }
-    for k in i..marks.len() {
-        let out = k <= j && is_at(marks, k, Mark::Out);
-        let ended = k < j && is_at(marks, k, Mark::Last);
-        let begun = i < k && k <= j && is_at(marks, k, Mark::Anew);
-        if out || ended || begun {
-            return false;
-        }
-    }
-    true
+// A block is closed, by its last mark or by the mark after it.
+fn is_closed(block: &[Mark], after: &[Mark]) -> bool {
+    matches!(block.last(), Some(Mark::Last)) || matches!(after.first(), Some(Mark::Out))
 }
 
-// A block that ends at j is closed.
-fn is_closed(marks: &[Mark], j: usize) -> bool {
-    is_at(marks, j, Mark::Last) || is_at(marks, j.saturating_add(1), Mark::Out)
-}
-
-// A block that ends at j is unclosed.
-fn is_unclosed(marks: &[Mark], j: usize) -> bool {
-    j.saturating_add(1) == marks.len() && !is_at(marks, j, Mark::Last)
+// A block is unclosed at the end of the list.
+fn is_unclosed(block: &[Mark], after: &[Mark]) -> bool {
+    after.is_empty() && !matches!(block.last(), Some(Mark::Last))
 }

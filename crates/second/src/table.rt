@@ -1,6 +1,6 @@
-use crate::replies::Refusal;
+use crate::refusal::{Refusal, Stop, Why};
 use rules::mark::Mark;
-use std::alloc::Global;
+use std::alloc::{AllocError, Global};
 
 #[derive(Clone, Copy, Debug)]
 pub enum TableKind {
@@ -15,91 +15,79 @@ pub struct TableText<'a> {
     pub bytes: &'a [u8],
 }
 
-// A refusal of a table, with the place of the byte to blame.
-fn wrong_at(number: u8, place: Option<usize>) -> Option<Refusal> {
-    Some(Refusal {
-        number,
-        place,
-        count: None,
-    })
-}
-
-fn byte_at(bytes: &[u8], at: usize) -> usize {
-    match bytes.get(at) {
-        Some(byte) => usize::from(*byte),
-        None => 0,
-    }
-}
-
-// 2 to the width.
-fn letters(width: usize) -> usize {
-    let mut count: usize = 1;
-    for _ in 0..width {
-        count = count.saturating_mul(2);
-    }
-    count
-}
-
-impl<'a> TableText<'a> {
-    pub fn states(&self) -> usize {
-        byte_at(self.bytes, 0)
-    }
-
-    pub fn width(&self) -> usize {
-        byte_at(self.bytes, self.states().saturating_add(1))
-    }
-
-    pub fn flag(&self, state: usize) -> bool {
-        byte_at(self.bytes, state.saturating_add(1)) == 1
-    }
-
-    pub fn entry(&self, state: usize, letter: usize) -> usize {
-        let row = state.saturating_mul(letters(self.width()));
-        let start = self.states().saturating_add(2);
-        byte_at(self.bytes, start.saturating_add(row).saturating_add(letter))
+impl TableKind {
+    fn most_states(self) -> usize {
+        match self {
+            TableKind::Pattern => 250,
+            TableKind::Scope => 8,
+        }
     }
 
     // The state that an entry names.
-    fn target(&self, entry: usize) -> usize {
-        match self.kind {
+    fn target(self, entry: usize) -> usize {
+        match self {
             TableKind::Pattern => entry,
             TableKind::Scope => entry % 64,
         }
     }
+}
+
+// What an entry of a scope table marks a word as.
+fn mark_of(entry: usize) -> Mark {
+    match entry / 64 {
+        0 => Mark::Out,
+        1 => Mark::In,
+        2 => Mark::Last,
+        _ => Mark::Anew,
+    }
+}
+
+impl<'a> TableText<'a> {
+    fn byte_at(&self, at: usize) -> usize {
+        self.bytes.get(at).map_or(0, |byte| usize::from(*byte))
+    }
+
+    pub fn states(&self) -> usize {
+        self.byte_at(0)
+    }
+
+    pub fn width(&self) -> usize {
+        self.byte_at(self.states().saturating_add(1))
+    }
+
+    // How many letters a table of this width has.
+    fn letters(&self) -> usize {
+        1 << self.width().min(6)
+    }
+
+    pub fn flag(&self, state: usize) -> bool {
+        self.byte_at(state.saturating_add(1)) == 1
+    }
+
+    pub fn entry(&self, state: usize, letter: usize) -> usize {
+        let row = state.saturating_mul(self.letters());
+        let start = self.states().saturating_add(2);
+        self.byte_at(start.saturating_add(row).saturating_add(letter))
+    }
 
     fn letter(&self, word: u16) -> usize {
-        let count = letters(self.width());
-        if count == 0 {
-            0
-        } else {
-            usize::from(word) % count
-        }
+        usize::from(word).checked_rem(self.letters()).unwrap_or(0)
     }
 
     // The state after these words, from state 0 on.
     pub fn state_after(&self, words: &[u16]) -> usize {
-        let mut state = 0;
-        for word in words {
-            state = self.target(self.entry(state, self.letter(*word)));
-        }
-        state
+        words.iter().fold(0, |state, word| {
+            self.kind.target(self.entry(state, self.letter(*word)))
+        })
     }
 
-    // The mark of the word at a place.
-    pub fn mark(&self, words: &[u16], at: usize) -> Mark {
-        let mut state = 0;
-        let mut entry = 0;
-        for (k, word) in words.iter().enumerate() {
-            if k <= at {
-                entry = self.entry(state, self.letter(*word));
-                state = self.target(entry);
+    // The mark of the final word of a list.
+    pub fn mark(&self, words: &[u16]) -> Mark {
+        match words.split_last() {
+            Some((word, before)) => {
+                mark_of(self.entry(self.state_after(before), self.letter(*word)))
             }
-        }
-        match entry / 64 {
-            0 => Mark::Out,
-            1 => Mark::In,
-            2 => Mark::Last,
-            _ => Mark::Anew,
+            None => Mark::Out,
         }
     }
 
@@ -109,55 +97,39 @@ impl<'a> TableText<'a> {
             TableKind::Pattern => &[1, 1, 0, 0],
             TableKind::Scope => &[1, 1, 0, 64],
         };
-        TableText {
-            kind: self.kind,
-            bytes,
-        }
+        TableText { bytes, ..self }
     }
 
-    // What is wrong with the bytes as a table of the kind, if anything is.
-    pub fn wrong(&self) -> Option<Refusal> {
-        let most = match self.kind {
-            TableKind::Pattern => 250,
-            TableKind::Scope => 8,
-        };
-        let n = self.states();
-        if self.bytes.is_empty() {
-            return wrong_at(9, None);
+    // Refuses bytes that are no lawful table of the kind.
+    pub fn check(&self) -> Result<(), Refusal> {
+        let (states, rest) = self.bytes.split_first().ok_or(Why::TableLength)?;
+        let n = usize::from(*states);
+        if n == 0 || n > self.kind.most_states() {
+            return Err(Why::States.at(0));
         }
-        if n == 0 || n > most {
-            return wrong_at(10, Some(0));
+        let (flags, rest) = rest.split_at_checked(n).ok_or(Why::TableLength)?;
+        let (width, entries) = rest.split_first().ok_or(Why::TableLength)?;
+        if let Some(state) = flags.iter().position(|flag| *flag > 1) {
+            return Err(Why::Flag.at(state.saturating_add(1)));
         }
-        if self.bytes.len() < n.saturating_add(2) {
-            return wrong_at(9, None);
+        if *width > 6 {
+            return Err(Why::Width.at(n + 1));
         }
-        self.wrong_flag(n)
+        if entries.len() != n << *width {
+            return Err(Refusal::from(Why::TableLength));
+        }
+        self.check_entries(n, entries)
     }
 
-    fn wrong_flag(&self, n: usize) -> Option<Refusal> {
-        for state in 0..n {
-            let place = state.saturating_add(1);
-            if byte_at(self.bytes, place) > 1 {
-                return wrong_at(11, Some(place));
-            }
+    // Each entry names one of n states.
+    fn check_entries(&self, n: usize, entries: &[u8]) -> Result<(), Refusal> {
+        let stray = entries
+            .iter()
+            .position(|entry| self.kind.target(usize::from(*entry)) >= n);
+        match stray {
+            Some(at) => Err(Why::Entry.at(at.saturating_add(n).saturating_add(2))),
+            None => Ok(()),
         }
-        if self.width() > 6 {
-            return wrong_at(12, Some(n.saturating_add(1)));
-        }
-        let rows = n.saturating_mul(letters(self.width()));
-        if self.bytes.len() != rows.saturating_add(n).saturating_add(2) {
-            return wrong_at(9, None);
-        }
-        self.wrong_entry(n)
-    }
-
-    fn wrong_entry(&self, n: usize) -> Option<Refusal> {
-        for place in 0..self.bytes.len() {
-            if place >= n.saturating_add(2) && self.target(byte_at(self.bytes, place)) >= n {
-                return wrong_at(13, Some(place));
-            }
-        }
-        None
     }
 }
 
@@ -168,10 +140,12 @@ pub struct Pair<'a> {
     pub scope: TableText<'a>,
 }
 
-#[derive(Drop)]
-pub enum Composing {
-    Table(Vec<u8>),
-    Refused(u8),
+// A state of the composed table: a state of the scope with nothing open, one with a state of the pattern, or failed.
+#[derive(Clone, Copy)]
+enum State {
+    Shut(usize),
+    Open(usize, usize),
+    Failed,
 }
 
 impl<'a> Pair<'a> {
@@ -188,101 +162,95 @@ impl<'a> Pair<'a> {
         }
     }
 
-    // The numbers of the composed states: a scope state with nothing open, one with a pattern state, and failed.
-    fn shut(&self, s: usize) -> usize {
-        s.saturating_mul(self.pattern.states().saturating_add(1))
-    }
-
-    fn open(&self, s: usize, q: usize) -> usize {
-        self.shut(s).saturating_add(1).saturating_add(q)
-    }
-
-    fn failed(&self) -> usize {
-        self.shut(self.scope.states())
+    // The number of a composed state.
+    fn number(&self, state: State) -> usize {
+        let run = self.pattern.states().saturating_add(1);
+        match state {
+            State::Shut(s) => s.saturating_mul(run),
+            State::Open(s, q) => s.saturating_mul(run).saturating_add(1).saturating_add(q),
+            State::Failed => self.scope.states().saturating_mul(run),
+        }
     }
 
     pub fn composed_states(&self) -> usize {
-        self.failed().saturating_add(1)
+        self.number(State::Failed).saturating_add(1)
     }
 
-    // Where a letter leads from scope state s, with the pattern's state if a stretch is open.
-    fn next(&self, s: usize, q: Option<usize>, letter: usize) -> usize {
-        let entry = self.scope.entry(s, letter);
-        let t = entry % 64;
-        let on = self.pattern.entry(q.unwrap_or(0), letter);
-        let sound = match (entry / 64, q) {
-            (0, Some(q)) => self.pattern.flag(q),
-            (0, None) => true,
-            (1, _) => return self.open(t, on),
-            (2, _) => self.pattern.flag(on),
-            _ => return self.open(t, self.pattern.entry(0, letter)),
+    // The composed states by their numbers: those of the scope in order, each with nothing open and then with each
+    // state of the pattern, and failed after them.
+    fn states(&self, heap: Global) -> Result<Vec<State>, AllocError> {
+        let mut states = Vec::new(heap);
+        for s in 0..self.scope.states() {
+            states.push(State::Shut(s))?;
+            states.extend((0..self.pattern.states()).map(|q| State::Open(s, q)))?;
+        }
+        states.push(State::Failed)?;
+        Ok(states)
+    }
+
+    fn flag(&self, state: State) -> bool {
+        match state {
+            State::Shut(_) => true,
+            State::Open(s, q) => self.pattern.flag(q) || !self.scope.flag(s),
+            State::Failed => false,
+        }
+    }
+
+    // Where a letter leads.
+    fn next(&self, state: State, letter: usize) -> State {
+        let (s, q) = match state {
+            State::Shut(s) => (s, None),
+            State::Open(s, q) => (s, Some(q)),
+            State::Failed => return State::Failed,
         };
-        if sound { self.shut(t) } else { self.failed() }
+        let entry = self.scope.entry(s, letter);
+        let t = self.scope.kind.target(entry);
+        let on = self.pattern.entry(q.unwrap_or(0), letter);
+        let sound = match mark_of(entry) {
+            Mark::In => return State::Open(t, on),
+            Mark::Anew => return State::Open(t, self.pattern.entry(0, letter)),
+            Mark::Last => self.pattern.flag(on),
+            Mark::Out => q.is_none_or(|q| self.pattern.flag(q)),
+        };
+        if sound { State::Shut(t) } else { State::Failed }
     }
 
-    // The number of the refusal, where the tables do not compose into so many bytes.
-    fn refusal(&self, room: usize) -> Option<u8> {
-        if let Some(wrong) = self.pattern.wrong() {
-            return Some(wrong.number);
-        }
-        if let Some(wrong) = self.scope.wrong() {
-            return Some(wrong.number);
-        }
+    // Refuses tables that do not compose into so many bytes.
+    fn check(&self, room: usize) -> Result<(), Refusal> {
+        self.pattern.check()?;
+        self.scope.check()?;
         if self.pattern.width() != self.scope.width() {
-            return Some(14);
+            return Err(Refusal::from(Why::OtherWidth));
         }
         let states = self.composed_states();
         if states > 250 {
-            return Some(15);
+            return Err(Refusal::from(Why::ComposedStates));
         }
-        let rows = states.saturating_mul(letters(self.pattern.width()));
+        let rows = states.saturating_mul(self.pattern.letters());
         if room < rows.saturating_add(states).saturating_add(2) {
-            return Some(16);
+            return Err(Refusal::from(Why::Room));
         }
-        None
+        Ok(())
     }
 
-    // The composed table, state by state: the scope's states in order, each with nothing open and then with each state
-    // of the pattern, and failed after them.
-    pub fn composed(&self, heap: Global, room: usize) -> Composing {
-        if let Some(number) = self.refusal(room) {
-            return Composing::Refused(number);
-        }
+    // The composed table, state by state.
+    pub fn composed(&self, heap: Global, room: usize) -> Result<Vec<u8>, Stop> {
+        self.check(room)?;
+        let states = self.states(heap)?;
         let mut bytes = Vec::new(heap);
-        let _ = bytes.push(low(self.composed_states()));
-        self.push_flags(&mut bytes);
-        let _ = bytes.push(low(self.pattern.width()));
-        for s in 0..self.scope.states() {
-            self.push_row(&mut bytes, s, None);
-            for q in 0..self.pattern.states() {
-                self.push_row(&mut bytes, s, Some(q));
+        bytes.push(byte(states.len())?)?;
+        bytes.extend(states.iter().map(|state| u8::from(self.flag(*state))))?;
+        bytes.push(byte(self.pattern.width())?)?;
+        for state in states.iter() {
+            for letter in 0..self.pattern.letters() {
+                bytes.push(byte(self.number(self.next(*state, letter)))?)?;
             }
         }
-        for _ in 0..letters(self.pattern.width()) {
-            let _ = bytes.push(low(self.failed()));
-        }
-        Composing::Table(bytes)
-    }
-
-    fn push_flags(&self, bytes: &mut Vec<u8>) {
-        for s in 0..self.scope.states() {
-            let _ = bytes.push(1);
-            for q in 0..self.pattern.states() {
-                let accepted = self.pattern.flag(q) || !self.scope.flag(s);
-                let _ = bytes.push(u8::from(accepted));
-            }
-        }
-        let _ = bytes.push(0);
-    }
-
-    fn push_row(&self, bytes: &mut Vec<u8>, s: usize, q: Option<usize>) {
-        for letter in 0..letters(self.pattern.width()) {
-            let _ = bytes.push(low(self.next(s, q, letter)));
-        }
+        Ok(bytes)
     }
 }
 
-// A number below 256 as a byte.
-fn low(number: usize) -> u8 {
-    (number & 0xff) as u8
+// A number as a byte of a composed table.
+fn byte(number: usize) -> Result<u8, Why> {
+    u8::try_from(number).map_err(|_| Why::ComposedStates)
 }

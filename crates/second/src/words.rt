@@ -1,16 +1,18 @@
-// Bit `i` of a word, counted from the lowest. A word has 16.
-pub fn has(word: u16, i: u8) -> bool {
-    let mut rest = word;
-    for _ in 0..i {
-        rest = rest / 2;
-    }
-    rest % 2 == 1
+// The word in which one condition holds. A word has 16 of them.
+pub fn bit(condition: u8) -> u16 {
+    1u16.checked_shl(u32::from(condition)).unwrap_or(0)
 }
 
-// Place `at` of the list is there, and its word has the condition.
-pub fn stands(words: &[u16], at: usize, condition: u8) -> bool {
-    match words.get(at) {
-        Some(word) => has(*word, condition),
-        None => false,
-    }
+pub fn has(word: u16, condition: u8) -> bool {
+    word & bit(condition) != 0
+}
+
+// Some word of the list has the condition.
+pub fn any_has(words: &[u16], condition: u8) -> bool {
+    words.iter().any(|word| has(*word, condition))
+}
+
+// How many words of the list have the condition.
+pub fn count_of(words: &[u16], condition: u8) -> usize {
+    words.iter().filter(|word| has(**word, condition)).count()
 }
