@@ -1,4 +1,3 @@
-pub mod Taking
 pub mod Holding
 pub mod Chaining
 pub mod Responding

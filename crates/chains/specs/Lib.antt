@@ -3,3 +3,4 @@ pub mod Places
 pub mod Laws
 pub mod Progress
 pub mod Held
+pub mod Settings

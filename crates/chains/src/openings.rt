@@ -6,6 +6,7 @@ use crate::chain::Chain;
 
 // The openings of a chain that are under way: whether some opening has met one condition of the chain so far,
 // some two, and some three. Openings that have met the same number go on alike, so a flag stands for them all.
+// An array of flags would be no plainer: each line would still ask the chain by the flag's place.
 #[derive(Clone, Copy)]
 pub(crate) struct Openings {
     one: bool,

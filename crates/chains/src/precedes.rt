@@ -1,10 +1,8 @@
 pub mod reading;
 
-ghost use Rattle.std.specs.Prelude.{◌≡◌, true, false, ◌&&◌, [], ◌∷◌, Ok, Err};
+ghost use Rattle.std.specs.Prelude.{◌≡◌, true, false, ◌&&◌, [], ◌∷◌, MatchResult};
 ghost use Rattle.rules.specs.declared.refusal.SettingRefusal.TheVariants.{Range};
-ghost use Rattle.chains.specs.Chains.{fair, precedes};
-ghost use Rattle.chains.specs.Held.{chain_of};
-ghost use Rattle.chains.specs.contracts.precedes.reading.PrecedesPattern.TheImpl.{ghosts};
+ghost use Rattle.chains.specs.Chains.{fair};
 
 use crate::chain::Chain;
 use rules::refusal::SettingRefusal;
@@ -16,22 +14,25 @@ pub struct Precedes {
     first: Chain,
     second: Chain,
     // how many conditions of the first chain are met, at places up to the first that begins the second
-    met: u8,
+    met: usize,
     // how many conditions of the second chain are met
-    followed: u8,
+    followed: usize,
 }
 
 impl Precedes {
+    ghost use Rattle.chains.specs.Held.{chain_of};
+    ghost use Rattle.chains.specs.Settings.{PrecedesHas};
+
     // Condition 0 precedes condition 0.
     pub fn new() -> Precedes
-        ensures { (ghosts.meaning result ≡ precedes (0 ∷ []) (0 ∷ [])) × (ghosts.rest result ≡ precedes (0 ∷ []) (0 ∷ [])) }
+        ensures { PrecedesHas result (0 ∷ []) (0 ∷ []) }
     {
         Precedes::of(Chain::first(), Chain::first())
     }
 
-    // Takes other chains, and starts.
+    // Takes other chains, and starts. `Responds` does the same: a trait for both would be longer than the body.
     pub fn set_chains(&mut self, first: &[u8], second: &[u8]) -> Result<(), SettingRefusal>
-        ensures { elim result [ Ok _ ↦ (fair first.now && fair second.now ≡ true) × (ghosts.meaning self.new ≡ precedes first.now second.now) × (ghosts.rest self.new ≡ precedes first.now second.now) | Err e ↦ (fair first.now && fair second.now ≡ false) × (e ≡ Range) × (self.new ≡ self.old) ] }
+        ensures { MatchResult result (λ _. (fair first.now && fair second.now ≡ true) × PrecedesHas self.new first.now second.now) (λ e. (fair first.now && fair second.now ≡ false) × (e ≡ Range) × (self.new ≡ self.old)) }
     {
         let first = Chain::new(first)?;
         let second = Chain::new(second)?;
@@ -41,7 +42,7 @@ impl Precedes {
 
     // The pattern of these chains, at the empty list.
     fn of(first: Chain, second: Chain) -> Precedes
-        ensures { (ghosts.meaning result ≡ precedes (chain_of first) (chain_of second)) × (ghosts.rest result ≡ precedes (chain_of first) (chain_of second)) }
+        ensures { PrecedesHas result (chain_of first) (chain_of second) }
     {
         Precedes {
             first,

@@ -1,10 +1,8 @@
 pub mod reading;
 
-ghost use Rattle.std.specs.Prelude.{◌≡◌, true, false, ◌&&◌, [], ◌∷◌, Ok, Err};
+ghost use Rattle.std.specs.Prelude.{◌≡◌, true, false, ◌&&◌, [], ◌∷◌, MatchResult};
 ghost use Rattle.rules.specs.declared.refusal.SettingRefusal.TheVariants.{Range};
-ghost use Rattle.chains.specs.Chains.{fair, responds};
-ghost use Rattle.chains.specs.Held.{chain_of};
-ghost use Rattle.chains.specs.contracts.responds.reading.RespondsPattern.TheImpl.{ghosts};
+ghost use Rattle.chains.specs.Chains.{fair};
 
 use crate::chain::Chain;
 use crate::openings::Openings;
@@ -18,20 +16,23 @@ pub struct Responds {
     response: Chain,
     openings: Openings,
     // how many conditions of the response are met since the stimulus was last completed; all of them before that
-    answered: u8,
+    answered: usize,
 }
 
 impl Responds {
+    ghost use Rattle.chains.specs.Held.{chain_of};
+    ghost use Rattle.chains.specs.Settings.{RespondsHas};
+
     // Condition 0 responds to condition 0.
     pub fn new() -> Responds
-        ensures { (ghosts.meaning result ≡ responds (0 ∷ []) (0 ∷ [])) × (ghosts.rest result ≡ responds (0 ∷ []) (0 ∷ [])) }
+        ensures { RespondsHas result (0 ∷ []) (0 ∷ []) }
     {
         Responds::of(Chain::first(), Chain::first())
     }
 
     // Takes other chains, and starts: the response is to respond to the stimulus.
     pub fn set_chains(&mut self, stimulus: &[u8], response: &[u8]) -> Result<(), SettingRefusal>
-        ensures { elim result [ Ok _ ↦ (fair stimulus.now && fair response.now ≡ true) × (ghosts.meaning self.new ≡ responds stimulus.now response.now) × (ghosts.rest self.new ≡ responds stimulus.now response.now) | Err e ↦ (fair stimulus.now && fair response.now ≡ false) × (e ≡ Range) × (self.new ≡ self.old) ] }
+        ensures { MatchResult result (λ _. (fair stimulus.now && fair response.now ≡ true) × RespondsHas self.new stimulus.now response.now) (λ e. (fair stimulus.now && fair response.now ≡ false) × (e ≡ Range) × (self.new ≡ self.old)) }
     {
         let stimulus = Chain::new(stimulus)?;
         let response = Chain::new(response)?;
@@ -41,7 +42,7 @@ impl Responds {
 
     // The pattern of these chains, at the empty list: nothing is under way and nothing is owed.
     fn of(stimulus: Chain, response: Chain) -> Responds
-        ensures { (ghosts.meaning result ≡ responds (chain_of stimulus) (chain_of response)) × (ghosts.rest result ≡ responds (chain_of stimulus) (chain_of response)) }
+        ensures { RespondsHas result (chain_of stimulus) (chain_of response) }
     {
         Responds {
             stimulus,

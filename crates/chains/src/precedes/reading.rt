@@ -9,7 +9,7 @@ use rules::pattern::Pattern;
 impl Precedes {
     // How many conditions of the first chain are met after the word: once the second chain has begun, no word
     // counts for the first any more. The word that begins the second still does.
-    fn met_after(&self, word: u16) -> u8
+    fn met_after(&self, word: u16) -> usize
         ensures { result ≡ (if nat_eq self.now.followed 0 then next_met (chain_of self.now.first) self.now.met word else self.now.met) }
     {
         if self.followed == 0 {

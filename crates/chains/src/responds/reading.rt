@@ -10,7 +10,7 @@ use rules::pattern::Pattern;
 impl Responds {
     // How many conditions of the response are met after the word. It begins again where the stimulus is
     // completed, since what occurs from there on occurs from every earlier place on too.
-    fn answered_after(&self, word: u16) -> u8
+    fn answered_after(&self, word: u16) -> usize
         ensures { result ≡ next_met (chain_of self.now.response) (if completes (chain_of self.now.stimulus) (under_of self.now.openings) word then 0 else self.now.answered) word }
     {
         if self.openings.complete(&self.stimulus, word) {

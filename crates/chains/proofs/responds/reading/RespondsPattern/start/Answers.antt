@@ -1,6 +1,0 @@
-use Rattle.std.proofs.Common.{rules}
-use Rattle.chains.proofs.Responding.{responds_start}
-use Rattle.chains.proofs.responds.reading.RespondsPattern.start.Goals as goal
-
-pub returns : goal.returns
-returns c = search (rules, responds_start)
