@@ -1,5 +1,5 @@
 ghost use Rattle.std.specs.Prelude.{◌≡◌};
-ghost use Rattle.watch.specs.Faults.{watch_number, play_number, watch_fault_of, play_fault_of};
+ghost use Rattle.watch.specs.Faults.{watch_number, play_number};
 
 use rules::refusal::SampleRefusal;
 
@@ -43,42 +43,6 @@ impl PlayFault {
         match self {
             PlayFault::Framing => 8,
             PlayFault::Sample { place: _, fault } => fault.number(),
-        }
-    }
-}
-
-// An encoder's refusal with the count before the sample.
-#[derive(Clone, Copy)]
-pub struct Counted {
-    pub count: u32,
-    pub refusal: SampleRefusal,
-}
-
-impl From<Counted> for WatchFault {
-    ghost from_gives = { λ c r. r ≡ watch_fault_of c };
-
-    fn from(counted: Counted) -> WatchFault {
-        WatchFault {
-            count: counted.count,
-            cause: WatchCause::Encoder(counted.refusal),
-        }
-    }
-}
-
-// A watch's fault with the place of the sample in the record.
-#[derive(Clone, Copy)]
-pub struct Placed {
-    pub place: usize,
-    pub fault: WatchFault,
-}
-
-impl From<Placed> for PlayFault {
-    ghost from_gives = { λ p r. r ≡ play_fault_of p };
-
-    fn from(placed: Placed) -> PlayFault {
-        PlayFault::Sample {
-            place: placed.place,
-            fault: placed.fault,
         }
     }
 }

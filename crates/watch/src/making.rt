@@ -1,7 +1,5 @@
-ghost use Rattle.std.specs.Prelude.{◌≡◌, List, [], ◌∷◌};
-ghost use mir.Syntax.{given};
+ghost use Rattle.std.specs.Prelude.{◌≡◌, []};
 ghost use Rattle.layer.specs.Blocks.{accepts_over};
-ghost use Rattle.layer.specs.contracts.over.reading.OverPattern.TheImpl.{ghosts};
 ghost use Rattle.watch.specs.After.{After};
 
 use crate::watch::Watch;
@@ -13,8 +11,8 @@ use rules::scope::Scope;
 impl<E: Encoder, S: Scope, P: Pattern> Watch<E, Over<S, P>> {
     // A watch of the scope over the pattern, both started, with no sample accepted.
     pub fn new(encoder: E, scope: S, pattern: P) -> Watch<E, Over<S, P>>
-        ensures after { After E.Encoder.codes (ghosts S.row P.row S.Scope (given 1) P.Pattern (given 2)).meaning (ghosts S.row P.row S.Scope (given 1) P.Pattern (given 2)).rest result [] }
-        ensures rule { (ghosts S.row P.row S.Scope (given 1) P.Pattern (given 2)).meaning result.rule ≡ accepts_over (S.Scope.marks scope) (S.Scope.answers scope) (P.Pattern.meaning pattern) }
+        ensures after { After E.Encoder ⟦<Over<S, P> as Pattern>⟧ result [] }
+        ensures rule { ⟦<Over<S, P> as Pattern>⟧.meaning result.rule ≡ accepts_over (S.Scope.marks scope) (S.Scope.answers scope) (P.Pattern.meaning pattern) }
         ensures encoder { result.encoder ≡ encoder }
     {
         Watch {
