@@ -1,6 +1,6 @@
 -- One call after another.
-use Rattle.std.proofs.Common.{◌≡◌, ℕ, ◌+◌, ◌<◌, ◌≤◌, Bool, List, [], ◌∷◌, ◌++◌, length, get_or, drop, sym, ap, ◌∙◌}
-use Rattle.std.proofs.lemmas.List.{append_assoc, append-nil, drop_more, drop_all}
+use Rattle.std.proofs.Common.{◌≡◌, ℕ, ◌+◌, ◌<◌, Bool, List, [], ◌∷◌, ◌++◌, length, get_or, drop, sym, ap, ◌∙◌}
+use Rattle.std.proofs.lemmas.List.{append_assoc, drop_more}
 use Rattle.runs.specs.declared.Call.{Call}
 use Rattle.runs.specs.declared.Answer.{Answer}
 use Rattle.watch.specs.Accepted.{Codes, Samples}
@@ -20,8 +20,3 @@ answered codes codes' size size' rule rule' cur calls i d a items items' total k
     ∙ (append_assoc items (a ∷ []) (later (list_after codes size cur call))
     ∙ (ap (λ (x : Answer). items ++ x ∷ later (list_after codes size cur call)) is
     ∙ (ap (λ (cs : List Call). items ++ answers codes size rule cur cs) (sym here) ∙ inv)))
-
-pub all_answered : (codes : Codes) (size : ℕ) (rule : List ℕ → Bool) (cur : Samples) (calls : List Call) (i : ℕ) (items total : List Answer)
-    → length calls ≤ i → items ++ answers codes size rule cur (drop i calls) ≡ total → items ≡ total
-all_answered codes size rule cur calls i items total h inv =
-    sym (ap (λ (cs : List Call). items ++ answers codes size rule cur cs) (drop_all i calls h) ∙ append-nil items) ∙ inv

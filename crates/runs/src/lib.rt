@@ -6,7 +6,7 @@ ghost use Rattle.std.specs.Prelude.{◌≡◌, List, [], ◌∷◌, IfOk, Decide
 ghost use Rattle.layer.specs.Blocks.{accepts_over};
 ghost use Rattle.layer.specs.Judged.{AcceptsEach};
 ghost use Rattle.watch.specs.Accepted.{Samples, words};
-ghost use Rattle.watch.specs.After.{After};
+ghost use Rattle.watch.specs.After.{OfEach, Answers, Leads, Keeps};
 ghost use Rattle.runs.specs.Runs.{answer_to, list_after, answers};
 
 use layer::over::Over;
@@ -37,9 +37,9 @@ pub enum Answer {
 
 // Makes one call.
 fn answer_one<E: Encoder, R: Pattern>(watch: &mut Watch<E, R>, call: Call<'_>) -> Answer
-    ensures answer { (list : Samples) → After E.Encoder.codes R.Pattern.meaning R.Pattern.rest watch.old list → result ≡ answer_to (E.Encoder.codes watch.old.encoder) (E.Encoder.size watch.old.encoder) (R.Pattern.meaning watch.old.rule) list call.entry }
-    ensures after { (list : Samples) → After E.Encoder.codes R.Pattern.meaning R.Pattern.rest watch.old list → After E.Encoder.codes R.Pattern.meaning R.Pattern.rest watch.new (list_after (E.Encoder.codes watch.old.encoder) (E.Encoder.size watch.old.encoder) list call.entry) }
-    ensures kept { (watch.new.encoder ≡ watch.old.encoder) × (R.Pattern.meaning watch.new.rule ≡ R.Pattern.meaning watch.old.rule) }
+    ensures answer { Answers E.Encoder R.Pattern watch.old (λ list. answer_to (E.Encoder.codes watch.old.encoder) (E.Encoder.size watch.old.encoder) (R.Pattern.meaning watch.old.rule) list call.entry) result }
+    ensures after { Leads E.Encoder R.Pattern watch.old (λ list. list_after (E.Encoder.codes watch.old.encoder) (E.Encoder.size watch.old.encoder) list call.entry) watch.new }
+    ensures kept { Keeps R.Pattern watch.old watch.new }
 {
     match call {
         Call::Feed(sample) => Answer::Fed(watch.feed(sample)),
@@ -58,11 +58,11 @@ fn answer_all<E: Encoder, R: Pattern>(
     watch: &mut Watch<E, R>,
     calls: &[Call<'_>],
 ) -> Result<Vec<Answer>, AllocError>
-    ensures { (list : Samples) → After E.Encoder.codes R.Pattern.meaning R.Pattern.rest watch.old list → IfOk result (λ v. v.items ≡ answers (E.Encoder.codes watch.old.encoder) (E.Encoder.size watch.old.encoder) (R.Pattern.meaning watch.old.rule) list calls.now) }
+    ensures { OfEach E.Encoder R.Pattern watch.old (λ list. IfOk result (λ v. v.items ≡ answers (E.Encoder.codes watch.old.encoder) (E.Encoder.size watch.old.encoder) (R.Pattern.meaning watch.old.rule) list calls.now)) }
 {
     let mut given = Vec::new(heap);
-    for call in calls {
-        given.push(answer_one(watch, *call))?;
+    for &call in calls {
+        given.push(answer_one(watch, call))?;
     }
     Ok(given)
 }

@@ -1,6 +1,6 @@
 use Rattle.std.proofs.Common.{◌≡◌, ◌++◌, drop, vec_items}
 use Rattle.watch.specs.Accepted.{Samples}
-use Rattle.watch.specs.After.{After}
+use Rattle.watch.specs.After.{After, OfEach, Keeps}
 use Rattle.runs.specs.Runs.{answers}
 use Rattle.runs.proofs.answer_all.Given as goal
 
@@ -8,9 +8,8 @@ use Rattle.runs.proofs.answer_all.Given as goal
 -- followed by those to the calls that are left
 abbrev pub invariant-loop-call : goal.invariant-loop-call
 invariant-loop-call g l =
-    (l.watch.encoder ≡ l.initial.watch.encoder)
-    × (g.R.Pattern.meaning l.watch.rule ≡ g.R.Pattern.meaning l.initial.watch.rule)
-    × ((list : Samples) → After g.E.Encoder.codes g.R.Pattern.meaning g.R.Pattern.rest l.initial.watch list
-    → (cur : Samples) × After g.E.Encoder.codes g.R.Pattern.meaning g.R.Pattern.rest l.watch cur
+    Keeps g.R.Pattern l.initial.watch l.watch
+    × OfEach g.E.Encoder g.R.Pattern l.initial.watch (λ list.
+    (cur : Samples) × After g.E.Encoder g.R.Pattern l.watch cur
     × (vec_items l.given ++ answers (g.E.Encoder.codes l.initial.watch.encoder) (g.E.Encoder.size l.initial.watch.encoder) (g.R.Pattern.meaning l.initial.watch.rule) cur (drop l.call-index l.calls)
     ≡ answers (g.E.Encoder.codes l.initial.watch.encoder) (g.E.Encoder.size l.initial.watch.encoder) (g.R.Pattern.meaning l.initial.watch.rule) list l.calls))
