@@ -2,7 +2,8 @@ pub mod coding;
 
 ghost use Rattle.std.specs.Prelude.{◌≡◌};
 ghost use Rattle.stranger.specs.Gauges.{gauge_codes};
-ghost use Rattle.stranger.specs.contracts.gauge.coding.GaugeEncoder.TheImpl.{ghosts};
+
+use rules::encoder::Encoder;
 
 // Samples of two bytes: a level and its complement.
 #[derive(Clone, Copy)]
@@ -10,7 +11,7 @@ pub struct Gauge {}
 
 impl Gauge {
     pub fn new() -> Gauge
-        ensures { (ghosts.size result ≡ 2) × (ghosts.codes result ≡ gauge_codes) }
+        ensures { (⟦<Gauge as Encoder>⟧.size result ≡ 2) × (⟦<Gauge as Encoder>⟧.codes result ≡ gauge_codes) }
     {
         Gauge {}
     }

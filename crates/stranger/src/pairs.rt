@@ -2,7 +2,8 @@ pub mod reading;
 
 ghost use Rattle.std.specs.Prelude.{◌≡◌};
 ghost use Rattle.stranger.specs.Paired.{paired};
-ghost use Rattle.stranger.specs.contracts.pairs.reading.PairsPattern.TheImpl.{ghosts};
+
+use rules::pattern::Pattern;
 
 // Words in pairs: an even number of them.
 #[derive(Clone, Copy)]
@@ -12,7 +13,7 @@ pub struct Pairs {
 
 impl Pairs {
     pub fn new() -> Pairs
-        ensures { (ghosts.meaning result ≡ paired) × (ghosts.rest result ≡ paired) }
+        ensures { (⟦<Pairs as Pattern>⟧.meaning result ≡ paired) × (⟦<Pairs as Pattern>⟧.rest result ≡ paired) }
     {
         Pairs { odd: false }
     }

@@ -18,12 +18,11 @@ impl Scope for Batches {
     }
 
     fn mark(&mut self, word: u16) -> Mark {
-        let inside = self.running;
         if word % 2 == 1 {
             self.running = true;
             return Mark::Anew;
         }
-        if !inside {
+        if !self.running {
             return Mark::Out;
         }
         if word / 2 % 2 == 1 {
