@@ -1,10 +1,11 @@
 mod writing;
 
 ghost use Rattle.std.specs.Prelude.{◌≡◌, ◌+◌, ◌*◌, ◌%◌, ◌<◌, ◌≤◌, true, false, IfOk};
-ghost use Rattle.table_format.specs.Layout.{is_pattern, states_of, width_of, size_of, flag_of, entry_of};
 ghost use Rattle.std.specs.Result.{result_err};
+ghost use Rattle.table_format.specs.Layout.{is_pattern, states_of, width_of, size_of, flag_of, entry_of};
+ghost use Rattle.tables.specs.Runs.{mark_of};
 ghost use Rattle.composing.specs.Composing.{pairing};
-ghost use Rattle.composing.specs.Composed.{place_number, place_at, bit_of, place_flag, lands, leads, entry_from, composed_length};
+ghost use Rattle.composing.specs.Composed.{place_number, place_at, place_flag, lands, leads, entry_from, composed_length};
 
 use crate::fault::ComposeFault;
 use crate::place::Place;
@@ -12,9 +13,6 @@ use rules::mark::Mark;
 use table_format::kind::Kind;
 use tables::mark::mark_of;
 use tables::table::Table;
-
-// The largest number of states of a pattern table.
-const MOST_STATES: usize = 250;
 
 // Two tables that compose: their widths are the same, and the composed table has few enough states.
 #[derive(Clone, Copy)]
@@ -50,7 +48,7 @@ impl<'a> Composer<'a> {
         let block = pattern.states() + 1;
         let failed = scope.states() * block;
         let total = failed + 1;
-        if total > MOST_STATES {
+        if total > Kind::Pattern.most_states() as usize {
             return Err(ComposeFault::States);
         }
         Ok(Composer {
@@ -124,15 +122,16 @@ impl<'a> Composer<'a> {
         self.scope.entry(s, letter).unwrap()
     }
 
-    // Where a word with this mark leads, when the scope goes to state s.
-    fn lands(&self, mark: Mark, s: usize, fine: bool, on: usize, fresh: usize) -> Place
-        requires s_bound { IsScopeState self.now s }
+    // Where a word leads at which the scope has this entry.
+    fn lands(&self, entry: u8, fine: bool, on: usize, fresh: usize) -> Place
+        requires entry_bound { IsScopeState self.now (entry % 64) }
         requires on_bound { IsPatternState self.now on }
         requires fresh_bound { IsPatternState self.now fresh }
-        ensures value { result ≡ lands self.now.pattern.bytes.now mark s fine on fresh }
+        ensures value { result ≡ lands self.now.pattern.bytes.now (mark_of entry) (entry % 64) fine on fresh }
         ensures within { IsPlace self.now result }
     {
-        let closes = match mark {
+        let s = Kind::Scope.next_state(entry) as usize;
+        let closes = match mark_of(entry) {
             Mark::In => return Place::Inside(s, on),
             Mark::Anew => return Place::Inside(s, fresh),
             Mark::Out => fine,
@@ -157,25 +156,13 @@ impl<'a> Composer<'a> {
             Place::Outside(s) => {
                 let entry = self.move_of(s, letter);
                 let fresh = self.next(0, letter);
-                self.lands(
-                    mark_of(entry),
-                    Kind::Scope.next_state(entry) as usize,
-                    true,
-                    fresh,
-                    fresh,
-                )
+                self.lands(entry, true, fresh, fresh)
             }
             Place::Inside(s, q) => {
                 let entry = self.move_of(s, letter);
                 let fresh = self.next(0, letter);
                 let on = self.next(q, letter);
-                self.lands(
-                    mark_of(entry),
-                    Kind::Scope.next_state(entry) as usize,
-                    self.accepts(q),
-                    on,
-                    fresh,
-                )
+                self.lands(entry, self.accepts(q), on, fresh)
             }
         }
     }
@@ -188,20 +175,15 @@ impl<'a> Composer<'a> {
         self.number(self.leads(place, letter))
     }
 
-    fn flag(&self, place: Place) -> u8
+    // Whether the composed table accepts in a place: an open stretch counts only where the scope says yes.
+    fn flag(&self, place: Place) -> bool
         requires { IsPlace self.now place }
-        ensures { result ≡ bit_of (place_flag self.now.pattern.bytes.now self.now.scope.bytes.now place) }
+        ensures { result ≡ place_flag self.now.pattern.bytes.now self.now.scope.bytes.now place }
     {
         match place {
-            Place::Failed => 0,
-            Place::Outside(_) => 1,
-            Place::Inside(s, q) => {
-                if self.scope.flag(s).unwrap() && !self.accepts(q) {
-                    0
-                } else {
-                    1
-                }
-            }
+            Place::Failed => false,
+            Place::Outside(_) => true,
+            Place::Inside(s, q) => !self.scope.flag(s).unwrap() || self.accepts(q),
         }
     }
 }

@@ -13,7 +13,7 @@ impl<'a> Composer<'a> {
         ensures { flags.new ≡ map (flag_byte self.now.pattern.bytes.now self.now.scope.bytes.now) (range_with_len 0 (self.now.failed + 1)) }
     {
         for (number, flag) in flags.iter_mut().enumerate() {
-            *flag = self.flag(self.place(number));
+            *flag = u8::from(self.flag(self.place(number)));
         }
     }
 
@@ -27,6 +27,7 @@ impl<'a> Composer<'a> {
         }
     }
 
+    // Rows by their place: over `chunks_exact_mut` the proof did not close, no byte is known after that loop.
     fn write_rows(&self, rows: &mut [u8])
         requires { length rows.old ≡ (self.now.failed + 1) * size_of self.now.pattern.bytes.now }
         ensures { rows.new ≡ rows_of self.now.pattern.bytes.now self.now.scope.bytes.now (self.now.failed + 1) }
