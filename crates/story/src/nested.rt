@@ -15,9 +15,9 @@ type NestedWatch = Watch<Contacts, Over<Before, Over<Between, Never>>>;
 
 fn nested_watch() -> Result<NestedWatch, SettingRefusal> {
     let contacts = rule::contacts()?;
-    let before = setup::before(rule::STOPPED)?;
-    let between = setup::between(rule::BREAK, rule::THREADED)?;
-    let never = setup::never(rule::DRIVEN)?;
+    let before: Before = setup::side(rule::STOPPED)?;
+    let between: Between = setup::span(rule::BREAK, rule::THREADED)?;
+    let never: Never = setup::throughout(rule::DRIVEN)?;
     Ok(Watch::new(contacts, before, Over::new(between, never)))
 }
 

@@ -1,9 +1,9 @@
 // The conditions of the story, and its contacts.
-ghost use Rattle.std.specs.Prelude.{◌≡◌, MatchResult};
-ghost use Rattle.story.specs.Contacted.{story_codes};
+ghost use Rattle.std.specs.Prelude.{MatchResult};
+ghost use Rattle.encoders.specs.Settings.{HasContacts};
+ghost use Rattle.story.specs.Contacted.{story_terms};
 
 use encoders::contacts::Contacts;
-use rules::encoder::Encoder;
 use rules::refusal::SettingRefusal;
 
 // D, the dryer is driven
@@ -17,7 +17,7 @@ pub const STOPPED: u8 = 3;
 
 // Four contacts, and condition k holds where contact k is closed.
 pub fn contacts() -> Result<Contacts, SettingRefusal>
-    ensures { MatchResult result (λ x. (⟦<Contacts as Encoder>⟧.codes x ≡ story_codes) × (⟦<Contacts as Encoder>⟧.size x ≡ 1)) (λ e. ⊥) }
+    ensures { MatchResult result (λ x. HasContacts x 4 story_terms) (λ e. ⊥) }
 {
     let mut contacts = Contacts::new();
     contacts.set_contacts(4)?;

@@ -9,7 +9,9 @@ use crate::rule;
 use crate::telling::tell_answer;
 use crate::trouble::Trouble;
 use kinds::setup;
+use patterns::never::Never;
 use runs::{Answer, Call, run};
+use scopes::between::Between;
 use std::alloc::Global;
 
 // The break, sample by sample: the dryer is driven before the tail is threaded. Then a record in which the
@@ -35,8 +37,8 @@ fn answers(heap: Global, calls: &[Call<'_>]) -> Result<Vec<Answer>, Trouble>
     ensures { IfOk result (λ v. v.items ≡ answers_by story_codes 1 (accepts_over (between_mark 1 2) (λ l. false) (never_by 0)) [] calls.now) }
 {
     let contacts = rule::contacts()?;
-    let between = setup::between(rule::BREAK, rule::THREADED)?;
-    let never = setup::never(rule::DRIVEN)?;
+    let between: Between = setup::span(rule::BREAK, rule::THREADED)?;
+    let never: Never = setup::throughout(rule::DRIVEN)?;
     Ok(run(heap, contacts, between, never, calls)?)
 }
 
