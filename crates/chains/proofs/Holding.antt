@@ -1,5 +1,5 @@
 -- How many conditions a chain has.
-use Rattle.std.proofs.Common.{◌≡◌, ℕ, ◌<◌, ◌≤◌, length, arith}
+use Rattle.std.proofs.Common.{◌≡◌, ◌<◌, ◌≤◌, length, arith}
 use Rattle.std.proofs.lemmas.List.{length-map, length-take}
 use Rattle.rules.specs.Few.{items_of}
 use Rattle.chains.specs.declared.chain.Chain.{Chain}

@@ -1,5 +1,6 @@
 -- Terms as values of a type, and the same terms as plain data.
-use Rattle.std.proofs.Common.{◌≡◌, ℕ, zero, suc, ◌<◌, Bool, true, false, ◌||◌, leb, List, [], ◌∷◌, ◌++◌, map, get_or, set, Some, Ok, Err, Result, MatchResult, sym, refl, ap, ◌∙◌}
+use Rattle.std.proofs.Common.{◌≡◌, ℕ, ◌<◌, Bool, true, false, ◌||◌, leb, List, [], ◌∷◌, ◌++◌, map, get_or, set, Some, Ok, Err, Result, MatchResult, sym, refl, ap, ◌∙◌}
+use Rattle.std.proofs.Math.ListN.{get_or-map}
 use Rattle.std.proofs.lemmas.List.{map-set, map_push, length-map}
 use Rattle.std.proofs.lemmas.Bool.{lt-ltb}
 use Rattle.std.specs.Result.{result_err}
@@ -22,18 +23,13 @@ module _ {T A : Type 0} (h : T → A) where
   pub word_plain : (f : A → Bool) (lists : List (List T)) → word (λ t. f (h t)) lists ≡ word f (map (map h) lists)
   word_plain f lists = ap number (bits_plain f lists)
 
-  at_plain : (lists : List (List T)) (i : ℕ) → get_or (map (map h) lists) i [] ≡ map h (get_or lists i [])
-  at_plain [] i = refl
-  at_plain (l ∷ lists) zero = refl
-  at_plain (l ∷ lists) (suc i) = at_plain lists i
-
   full_plain : (lists : List (List T)) (i : ℕ) → full (get_or (map (map h) lists) i []) ≡ full (get_or lists i [])
-  full_plain lists i = ap full (at_plain lists i) ∙ ap (λ n. leb 8 n) (length-map (get_or lists i []) h)
+  full_plain lists i = ap full (get_or-map (map h) lists i []) ∙ ap (λ n. leb 8 n) (length-map (get_or lists i []) h)
 
   with_plain : (lists : List (List T)) (i : ℕ) (t : T) → map (map h) (with_term i t lists) ≡ with_term i (h t) (map (map h) lists)
   with_plain lists i t =
       map-set (map h) lists i (get_or lists i [] ++ t ∷ [])
-      ∙ ap (set (map (map h) lists) i) (map_push h (get_or lists i []) t ∙ ap (λ l. l ++ h t ∷ []) (sym (at_plain lists i)))
+      ∙ ap (set (map (map h) lists) i) (map_push h (get_or lists i []) t ∙ ap (λ l. l ++ h t ∷ []) (sym (get_or-map (map h) lists i [])))
 
   -- adding the term t to condition n, which is i, where t is a as plain data: the conditions go from `old` to `new`
   module _ (old new : Conditions T) (n i : ℕ) (t : T) (a : A) (fair : Bool) (same : n ≡ i) (few : i < 16) (fine : fair ≡ true) (is : h t ≡ a) where

@@ -3,6 +3,7 @@ use Rattle.std.proofs.Common.{◌≡◌, ℕ, zero, suc, ◌+◌, ◌*◌, ◌/�
 use native.Mathlib.Nat.{zero-div, div-div-eq-div-mul, add-mul-div_left, add-mul-mod_self_left}
 use lib.Signed.{le_z}
 use Rattle.std.proofs.lemmas.Int.{ints}
+use Rattle.std.proofs.Math.ListN.{get_or-map}
 use Rattle.std.proofs.lemmas.List.{length-map}
 use Rattle.std.proofs.lemmas.Bool.Decides.{Decides-at, Decides-by_or}
 use Rattle.std.specs.List.{list_any}
@@ -35,15 +36,10 @@ has_number zero (b ∷ bs) =
 has_number (suc i) (b ∷ bs) = ap (λ m. eqb (m % 2) 1) (higher b (number bs) i) ∙ has_number i bs
 
 module _ {A : Type 0} (fits : A → Bool) where
-  at_condition : (lists : List (List A)) (i : ℕ) → get_or (map (list_any fits) lists) i false ≡ list_any fits (get_or lists i [])
-  at_condition [] i = refl
-  at_condition (l ∷ lists) zero = refl
-  at_condition (l ∷ lists) (suc i) = at_condition lists i
-
   pub word_says : (Fits : A → Type 0) (each : (t : A) → Decides (fits t) (Fits t)) (lists : List (List A)) → length lists ≡ 16 → Says Fits lists (word fits lists)
   word_says Fits each lists n = (
     subst (λ m. number (map (list_any fits) lists) < 2 ^ m) (length-map lists (list_any fits) ∙ n) (number_below (map (list_any fits) lists)),
-    λ i. Decides-at (has i (word fits lists)) (list_any fits (get_or lists i [])) (has_number i (map (list_any fits) lists) ∙ at_condition lists i) (Decides-by_or fits Fits (list_any fits) each refl (λ _ _. refl) (get_or lists i [])),
+    λ i. Decides-at (has i (word fits lists)) (list_any fits (get_or lists i [])) (has_number i (map (list_any fits) lists) ∙ get_or-map (list_any fits) lists i []) (Decides-by_or fits Fits (list_any fits) each refl (λ _ _. refl) (get_or lists i [])),
   )
 
 pub decides_le_z : (a b : ℤ) → Decides (le_z a b) (a ≤ℤ b)

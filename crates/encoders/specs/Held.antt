@@ -1,5 +1,5 @@
 -- The terms that a value holds.
-use Rattle.std.specs.Prelude.{ℕ, List, map, take, ℤ}
+use Rattle.std.specs.Prelude.{ℕ, List, map, ℤ}
 use Rattle.rules.specs.declared.few.Few.{Few}
 use Rattle.rules.specs.Few.{items_of}
 use Rattle.encoders.specs.declared.conditions.Conditions.{Conditions}

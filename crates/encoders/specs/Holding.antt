@@ -1,5 +1,5 @@
 -- When a condition holds, and the word of conditions.
-use Rattle.std.specs.Prelude.{ℕ, ◌+◌, ◌*◌, Bool, false, cond, ◌||◌, List, [], ◌∷◌, ◌++◌, map, length, replicate, Some, None, Option, nat_le, nat_lt, slice_index_or, slice_set}
+use Rattle.std.specs.Prelude.{ℕ, ◌+◌, ◌*◌, Bool, cond, List, [], ◌∷◌, ◌++◌, map, length, replicate, Some, None, Option, nat_le, nat_lt, slice_index_or, slice_set}
 use Rattle.std.specs.List.{list_any}
 use Rattle.rules.specs.declared.refusal.SettingRefusal.{SettingRefusal}
 use Rattle.rules.specs.declared.refusal.SettingRefusal.TheVariants.{Range, Term, Full}

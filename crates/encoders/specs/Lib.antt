@@ -1,4 +1,5 @@
 pub mod Holding
+pub mod Bytes
 pub mod Contact
 pub mod Event
 pub mod Letter

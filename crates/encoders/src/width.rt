@@ -1,4 +1,7 @@
 ghost use Rattle.std.specs.Prelude.{◌≡◌, ◌^◌, ◌≤◌, nat_lt};
+ghost use Rattle.encoders.specs.Bytes.{byte_within};
+
+use rules::refusal::SampleRefusal;
 
 // How many bits of a byte are in use, the lowest: 0 to 8.
 #[derive(Clone, Copy)]
@@ -20,5 +23,18 @@ impl Width {
         ensures { result ≡ nat_lt byte (2 ^ self.bits) }
     {
         u16::from(byte) < 1 << self.bits
+    }
+
+    // The byte of a sample of one byte, unless it has a bit above these.
+    pub fn byte(self, part: &[u8], above: SampleRefusal) -> Result<u8, SampleRefusal>
+        ensures { result ≡ byte_within self.bits above part.now }
+    {
+        let [byte] = part else {
+            return Err(SampleRefusal::Size);
+        };
+        if !self.covers(*byte) {
+            return Err(above);
+        }
+        Ok(*byte)
     }
 }

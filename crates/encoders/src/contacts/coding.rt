@@ -22,12 +22,7 @@ impl Encoder for Contacts {
     }
 
     fn ask(&self, part: &[u8]) -> Result<u16, SampleRefusal> {
-        let [byte] = part else {
-            return Err(SampleRefusal::Size);
-        };
-        if !self.contacts.covers(*byte) {
-            return Err(SampleRefusal::Contacts);
-        }
-        Ok(self.conditions.word(*byte))
+        let byte = self.contacts.byte(part, SampleRefusal::Contacts)?;
+        Ok(self.conditions.word(byte))
     }
 }

@@ -22,12 +22,7 @@ impl Encoder for Letters {
     }
 
     fn ask(&self, part: &[u8]) -> Result<u16, SampleRefusal> {
-        let [byte] = part else {
-            return Err(SampleRefusal::Size);
-        };
-        if !self.width.covers(*byte) {
-            return Err(SampleRefusal::Letter);
-        }
-        Ok(u16::from(*byte))
+        let byte = self.width.byte(part, SampleRefusal::Letter)?;
+        Ok(u16::from(byte))
     }
 }

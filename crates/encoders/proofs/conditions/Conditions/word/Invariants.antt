@@ -1,4 +1,3 @@
-use Rattle.std.proofs.Common.{◌≡◌}
 use Rattle.std.specs.List.{list_any}
 use Rattle.encoders.specs.Held.{terms_of}
 use Rattle.encoders.proofs.Numbering.{MadeBehind}

@@ -1,4 +1,5 @@
-use Rattle.std.proofs.Common.{◌≡◌, get_or, ◌∙◌, rules}
+use Rattle.std.proofs.Common.{◌≡◌, ◌∙◌, arith}
+use Rattle.std.proofs.lemmas.Grind.{common_steps}
 use Rattle.encoders.specs.Contact.{contact_fits}
 use Rattle.encoders.specs.Holding.{word}
 use Rattle.encoders.specs.Held.{contact_term, contact_terms, lists_of}
@@ -7,6 +8,6 @@ use Rattle.encoders.proofs.contacts.coding.ContactsEncoder.ask.Goals as goal
 
 pub returns : goal.returns
 returns c =
-    let e : c.word.result ≡ word (λ t. contact_fits t (get_or c.args.part.now 0 0)) (contact_terms c.args.self.now) =
-    c.word.ensures ∙ word_plain contact_term (λ t. contact_fits t (get_or c.args.part.now 0 0)) (lists_of c.args.self.now.conditions)
-    in search rules
+    let e : c.word.result ≡ word (λ t. contact_fits t c.in_ok-byte.byte) (contact_terms c.args.self.now) =
+    c.word.ensures ∙ word_plain contact_term (λ t. contact_fits t c.in_ok-byte.byte) (lists_of c.args.self.now.conditions)
+    in grind (arith, common_steps)
