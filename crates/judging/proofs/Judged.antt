@@ -1,28 +1,20 @@
 -- From what the watch answers to what the record is judged.
-use Rattle.std.proofs.Common.{◌≡◌, ℕ, ◌-◌, Bool, false, List, [], ◌++◌, length, take, drop, is_some, Some, None, Ok, Err, Option, Result, sym, refl, ap, ◌∙◌, arith}
+use Rattle.std.proofs.Common.{◌≡◌, ℕ, ◌-◌, Bool, false, List, [], ◌++◌, length, take, drop, is_some, Some, None, Ok, Option, Result, sym, refl, ap, ◌∙◌, arith}
 use Rattle.std.proofs.lemmas.List.{take_at}
 use Rattle.std.proofs.lemmas.Bool.{false≢true}
-use Rattle.watch.specs.declared.fault.PlayFault.{PlayFault}
 use Rattle.watch.specs.Accepted.{Codes, words, playing}
 use Rattle.table_format.specs.Layout.{width_of}
 use Rattle.encoders.specs.Letter.{letter_codes}
 use Rattle.framing.specs.declared.InputFault.{InputFault}
 use Rattle.framing.specs.Framed.{framed}
-use Rattle.composing.specs.declared.fault.ComposeFault.{ComposeFault}
 use Rattle.composing.specs.Composed.{composed}
-use Rattle.composing.specs.Composing.{composing, afterwards}
+use Rattle.composing.specs.Composing.{composing}
 use Rattle.table_format.specs.declared.fault.TableFault.{TableFault}
-use Rattle.judging.specs.Outcomes.{globally, after, record_judged, of_record, of_tables, of_input, input_judged, scratch_of}
+use Rattle.judging.specs.Outcomes.{globally, after, record_judged, of_record, of_tables, of_input, input_judged}
 
 module _ (t bytes : List ℕ) (codes : Codes) (size : ℕ) (ec : codes ≡ letter_codes (width_of t)) (es : size ≡ 1) where
   same_play : playing codes size [] bytes ≡ playing (letter_codes (width_of t)) 1 [] bytes
   same_play = λ i. playing (ec i) (es i) [] bytes
-
-  pub broken : (f : PlayFault) → Err f ≡ (playing codes size [] bytes).0 → Err f ≡ record_judged t bytes
-  broken f e =
-      let p = playing (letter_codes (width_of t)) 1 [] bytes in
-      let z : p.0 ≡ Err f = sym (e ∙ ap (λ x. x.0) same_play) in
-      sym (ap (after t p.1) z)
 
   pub judged : (rule : List ℕ → Bool) (n : ℕ) (v : Bool) → rule ≡ globally t → Ok n ≡ (playing codes size [] bytes).0 → v ≡ rule (words codes (playing codes size [] bytes).1) → Ok v ≡ record_judged t bytes
   judged rule n v er e ev =
@@ -47,8 +39,3 @@ module _ (input : List ℕ) (room : ℕ) (p s bytes : List ℕ) (n : ℕ) (ei : 
   whole t et =
       ap (λ (r : Result (List ℕ × List ℕ × List ℕ) InputFault). of_input r room) (sym ei)
       ∙ (ap (of_tables (composed p s) bytes) (sym ec) ∙ ap (λ (t : List ℕ). of_record (record_judged t bytes)) (sym et))
-
-  pub kept : (old all : List ℕ) → all ≡ composed p s ++ drop n old → all ≡ scratch_of (framed input) old room
-  kept old all e =
-      e ∙ (ap (λ (r : Result ℕ ComposeFault). afterwards r (composed p s) old) ec
-      ∙ ap (λ (r : Result (List ℕ × List ℕ × List ℕ) InputFault). scratch_of r old room) ei)

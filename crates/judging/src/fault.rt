@@ -28,6 +28,7 @@ impl JudgeFault {
     }
 }
 
+// By hand, since a derived `From` does not say which fault it makes, and the contracts do.
 impl From<InputFault> for JudgeFault {
     ghost from_gives = { λ f r. r ≡ Input f };
 

@@ -19,13 +19,9 @@ fn judge_record(table: &[u8], record: &[u8]) -> Result<bool, PlayFault>
     ensures { result ≡ record_judged table.now «record».now }
 {
     let mut pattern = TablePattern::new();
-    let Ok(()) = pattern.load(table) else {
-        unreachable()
-    };
+    pattern.load(table).unwrap();
     let mut letters = Letters::new();
-    let Ok(()) = letters.set_width(pattern.width()) else {
-        unreachable()
-    };
+    letters.set_width(pattern.width()).unwrap();
     let mut watch = Watch::new(letters, Globally::new(), pattern);
     watch.play(record)?;
     Ok(watch.verdict())
@@ -38,5 +34,5 @@ pub fn judge_input(input: &[u8], scratch: &mut [u8]) -> Result<bool, JudgeFault>
 {
     let parts = tables_of(input)?;
     let n = compose(parts.pattern, parts.scope, scratch)?;
-    Ok(judge_record(&scratch[0..n], parts.after)?)
+    judge_record(&scratch[0..n], parts.after).map_err(JudgeFault::Record)
 }

@@ -45,31 +45,12 @@ fn put_refusal(number: u8, line: &mut [u8]) -> usize
     ensures short { result ≤ 12 }
     ensures line { line.new ≡ over (refused_text number) line.old }
 {
+    let start = put(b"refused ", line);
+    let ones = b'0' + number % 10;
     if number < 10 {
-        put(
-            &[
-                b'r',
-                b'e',
-                b'f',
-                b'u',
-                b's',
-                b'e',
-                b'd',
-                b' ',
-                b'0' + number,
-                b'\n',
-            ],
-            line,
-        )
+        start + put(&[ones, b'\n'], &mut line[start..])
     } else {
-        let tens = b'0' + number / 10;
-        let ones = b'0' + number % 10;
-        put(
-            &[
-                b'r', b'e', b'f', b'u', b's', b'e', b'd', b' ', tens, ones, b'\n',
-            ],
-            line,
-        )
+        start + put(&[b'0' + number / 10, ones, b'\n'], &mut line[start..])
     }
 }
 
