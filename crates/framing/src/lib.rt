@@ -81,3 +81,19 @@ pub fn tables_of(input: &[u8]) -> Result<Tables<'_>, InputFault>
         after: scope.after,
     })
 }
+
+impl std::fmt::Display for InputFault {
+    ghost use Rattle.std.specs.Prelude.{Some};
+    ghost use Rattle.framing.specs.Texts.{fault_text};
+
+    ghost output = { λ fault. Some (fault_text fault) };
+
+    fn fmt<W: std::fmt::Write>(&self, f: &mut std::fmt::Formatter<W>) -> std::fmt::Result {
+        f.write_str(match self {
+            InputFault::CutShort => "the input ends before a table does",
+            InputFault::TooLong => "more than 60000 bytes",
+        })
+    }
+}
+
+impl std::error::Error for InputFault {}
