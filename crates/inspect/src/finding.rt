@@ -5,22 +5,22 @@ use table_format::fault::TableFault;
 use table_format::kind::Kind;
 use tables::table::Table;
 
-// What checking found of one table.
+// How large a table is.
 #[derive(Clone, Copy, PartialEq, Debug)]
-pub enum Finding {
-    Good { states: usize, width: u8 },
-    Refused(TableFault),
+pub struct Extent {
+    pub states: usize,
+    pub width: u8,
 }
+
+// What checking found of one table.
+pub type Finding = Result<Extent, TableFault>;
 
 pub fn finding_of(kind: Kind, bytes: &[u8]) -> Finding
     ensures { result ≡ found kind bytes.now }
 {
-    let mut table = Table::built_in(kind);
-    match table.replace(bytes) {
-        Ok(()) => Finding::Good {
-            states: table.states(),
-            width: table.width(),
-        },
-        Err(fault) => Finding::Refused(fault),
-    }
+    let table = Table::new(kind, bytes)?;
+    Ok(Extent {
+        states: table.states(),
+        width: table.width(),
+    })
 }

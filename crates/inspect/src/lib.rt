@@ -4,4 +4,3 @@
 
 pub mod finding;
 pub mod report;
-pub mod words;

@@ -1,9 +1,7 @@
-use crate::finding::{Finding, finding_of};
-use crate::words;
+use crate::finding::{Extent, Finding, finding_of};
 use framing::{InputFault, Tables, tables_of};
 use std::alloc::{AllocError, Global};
 use std::fmt;
-use table_format::fault::TableFault;
 use table_format::kind::Kind;
 
 // One table's line.
@@ -26,23 +24,11 @@ impl TableLine {
 
 impl fmt::Display for TableLine {
     fn fmt<W: fmt::Write>(&self, f: &mut fmt::Formatter<W>) -> fmt::Result {
-        let kind = words::kind_name(self.kind);
-        let len = self.len;
-        write!(f, "{kind}, length {len}: ")?;
+        write!(f, "{}, length {}: ", self.kind, self.len)?;
         match self.finding {
-            Finding::Good { states, width } => write!(f, "good, states {states}, width {width}"),
-            Finding::Refused(fault) => write_fault(fault, f),
+            Ok(Extent { states, width }) => write!(f, "good, states {states}, width {width}"),
+            Err(fault) => write!(f, "refused {}, {fault}", fault.number()),
         }
-    }
-}
-
-fn write_fault<W: fmt::Write>(fault: TableFault, f: &mut fmt::Formatter<W>) -> fmt::Result {
-    let number = fault.number();
-    let meaning = words::table_fault(fault);
-    write!(f, "refused {number}, {meaning}")?;
-    match fault.place() {
-        Some(place) => write!(f, ", byte {place}"),
-        None => Ok(()),
     }
 }
 
@@ -66,7 +52,5 @@ fn tables_report(heap: Global, tables: Tables<'_>) -> Result<String, AllocError>
 }
 
 fn input_report(heap: Global, fault: InputFault) -> Result<String, AllocError> {
-    let number = fault.number();
-    let meaning = words::input_fault(fault);
-    format!(in heap; "input: refused {number}, {meaning}\n")
+    format!(in heap; "input: refused {}, {fault}\n", fault.number())
 }
