@@ -4,7 +4,7 @@ use Rattle.std.proofs.Math.Bool.{and-true, and_assoc}
 use Rattle.std.proofs.lemmas.Bool.Decides.{Decides-at, Decides-ltb}
 use Rattle.rules.specs.declared.refusal.SettingRefusal.{SettingRefusal}
 use Rattle.chains.specs.Chains.{numbered}
-use Rattle.kinds.specs.SetUp.{SetUp}
+use Rattle.rules.specs.Settings.{SetUp}
 use Rattle.formulas.specs.declared.named.NamedPattern.{NamedPattern}
 use Rattle.formulas.specs.Formulas.{Satisfies}
 use Rattle.formulas.specs.Named.{meaning_of, formula_of, conditions_of, judged, judged_if}

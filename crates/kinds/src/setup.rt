@@ -2,9 +2,8 @@
 ghost use Rattle.std.specs.Prelude.{◌≡◌, ◌<◌, ◌≤◌, true, ◌&&◌};
 ghost use Rattle.chains.specs.Chains.{fair, precedes as precedes_by, responds as responds_by};
 ghost use Rattle.encoders.specs.Settings.{HasWidth};
-ghost use Rattle.kinds.specs.SetUp.{SetUp};
 ghost use Rattle.patterns.specs.Places.{throughout as throughout_by, counted};
-ghost use Rattle.rules.specs.Settings.{IsFreshPattern, IsFreshScope};
+ghost use Rattle.rules.specs.Settings.{IsFreshPattern, IsFreshScope, SetUp};
 ghost use Rattle.scopes.specs.Marks.{side_mark, between_mark};
 
 use chains::precedes::Precedes;

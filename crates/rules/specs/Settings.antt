@@ -6,6 +6,10 @@ use Rattle.rules.specs.declared.refusal.SettingRefusal.{SettingRefusal}
 use Rattle.rules.specs.declared.refusal.SettingRefusal.TheVariants.{Range}
 use Rattle.rules.specs.declared.scope.Scope.{Ghosts as ScopeGhosts}
 
+-- what is set up in one call is as its settings say where they are in range, and else they are refused as out of range
+abbrev pub SetUp : {K : Type 0} → Result K SettingRefusal → Type 0 → (K → Type 0) → Type 0
+SetUp result in_range as_said = MatchResult result (λ x. in_range × as_said x) (λ e. (in_range → ⊥) × (e ≡ Range))
+
 -- a setter takes its numbers exactly where they fit, and then P holds; else it refuses them by Range, and the value
 -- is as it was
 abbrev pub TakesIfFits : {T S : Type 0} → Result T SettingRefusal → Type 0 → S → S → Type 0 → Type 0
