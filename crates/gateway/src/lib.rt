@@ -17,7 +17,7 @@ use table_format::kind::Kind;
 fn refusal_code(number: u8) -> i32
     ensures { result ≡ neg_ℤ (pos number) }
 {
-    -(number as i32)
+    -i32::from(number)
 }
 
 // 0 for a lawful table of the kind, else minus the refusal's number.
@@ -30,6 +30,7 @@ fn check_code(kind: Kind, bytes: &[u8]) -> i32
     }
 }
 
+// One entry for each kind: C is promised these two names.
 pub fn vontiqa_check_pattern_table(bytes: &[u8]) -> i32
     ensures { result ≡ check_code (checked Pattern bytes.now) }
 {

@@ -9,6 +9,7 @@ ghost use Rattle.composing.specs.Composing.{composing, afterwards};
 ghost use Rattle.table_format.specs.Checked.{checked};
 ghost use Rattle.table_format.specs.declared.kind.Kind.TheVariants.{Pattern, Scope};
 
+// One entry for each kind: C is promised these two names.
 #[unsafe(no_mangle)]
 pub extern "C" fn vontiqa_check_pattern_table(bytes: &[u8]) -> i32
     ensures { result ≡ check_code (checked Pattern bytes.now) }
