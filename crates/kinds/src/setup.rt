@@ -1,6 +1,7 @@
 // The named kinds with their settings, each set up in one call.
 ghost use Rattle.std.specs.Prelude.{◌≡◌, ◌<◌, ◌≤◌, true, ◌&&◌};
-ghost use Rattle.chains.specs.Chains.{fair, precedes as precedes_by, responds as responds_by};
+ghost use Rattle.chains.specs.Chains.{fair};
+ghost use Rattle.chains.specs.Settings.{PrecedesHas, RespondsHas};
 ghost use Rattle.encoders.specs.Settings.{HasWidth};
 ghost use Rattle.patterns.specs.Places.{throughout as throughout_by, counted};
 ghost use Rattle.rules.specs.Settings.{IsFreshPattern, IsFreshScope, SetUp};
@@ -71,8 +72,9 @@ pub fn counting<const RISES: bool>(
     Ok(pattern)
 }
 
+// `responds` is the same of its own type: a trait for both would be longer than the two bodies.
 pub fn precedes(first: &[u8], second: &[u8]) -> Result<Precedes, SettingRefusal>
-    ensures { SetUp result (fair first.now && fair second.now ≡ true) (λ x. IsFreshPattern ⟦<Precedes as Pattern>⟧ x (precedes_by first.now second.now)) }
+    ensures { SetUp result (fair first.now && fair second.now ≡ true) (λ x. PrecedesHas x first.now second.now) }
 {
     let mut pattern = Precedes::new();
     pattern.set_chains(first, second)?;
@@ -81,7 +83,7 @@ pub fn precedes(first: &[u8], second: &[u8]) -> Result<Precedes, SettingRefusal>
 
 // The response is to respond to the stimulus.
 pub fn responds(stimulus: &[u8], response: &[u8]) -> Result<Responds, SettingRefusal>
-    ensures { SetUp result (fair stimulus.now && fair response.now ≡ true) (λ x. IsFreshPattern ⟦<Responds as Pattern>⟧ x (responds_by stimulus.now response.now)) }
+    ensures { SetUp result (fair stimulus.now && fair response.now ≡ true) (λ x. RespondsHas x stimulus.now response.now) }
 {
     let mut pattern = Responds::new();
     pattern.set_chains(stimulus, response)?;
