@@ -7,6 +7,9 @@ use crate::fault::ComposeFault;
 use table_format::kind::Kind;
 use tables::table::Table;
 
+// The length of the longest composed table: of 250 states and 64 letters.
+pub const LONGEST: usize = 16_252;
+
 // Checks both tables, the pattern's first, and composes them, if their widths, their states and the room
 // allow it.
 fn compose_bytes<'a>(

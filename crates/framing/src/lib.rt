@@ -11,7 +11,7 @@ ghost use Rattle.framing.specs.Framed.{fault_number, announcement, parts_of, spl
 pub const MOST_INPUT: usize = 60_000;
 
 // A length is written in four bytes, high byte first.
-const PREFIX: usize = 4;
+pub const PREFIX: usize = 4;
 
 #[derive(Clone, Copy, PartialEq, Eq, Debug)]
 pub enum InputFault {

@@ -2,17 +2,15 @@
 
 #![tactic(auto)]
 
+use composing::compose::LONGEST;
 use framing::reading::read_input;
 use judging::line::{LINE_ROOM, judge_line};
 use std::io;
 use std::io::Write;
 
-// The longest composed table.
-const SCRATCH: usize = 16_252;
-
 fn main(rt: HostRuntime) -> io::Result<()> {
     let input = read_input(rt.alloc(), rt.stdin())?;
-    let mut scratch = vec![in rt.alloc(); 0u8; SCRATCH]?;
+    let mut scratch = vec![in rt.alloc(); 0u8; LONGEST]?;
     let mut line = [0u8; LINE_ROOM];
     match judge_line(input.as_slice(), scratch.as_mut_slice(), &mut line) {
         Ok(len) => rt.stdout().write_all(&line[0..len]),

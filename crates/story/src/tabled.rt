@@ -1,6 +1,6 @@
 use crate::telling::{tell_feeding, tell_record};
 use crate::trouble::Trouble;
-use composing::compose::compose;
+use composing::compose::{LONGEST, compose};
 use encoders::letters::Letters;
 use kinds::setup::letters;
 use scopes::globally::Globally;
@@ -21,9 +21,6 @@ static BETWEEN: [u8; 20] = [
     65, 65, 65, 65, 0, 0, 0, 0,
 ];
 
-// The room that composing writes into, since it takes no heap: no composed table is longer.
-const LONGEST: usize = 16_252;
-
 // Judges two records by a pattern table.
 fn tell_table(rt: &HostRuntime, table: &[u8], letters: Letters) -> Result<(), Trouble> {
     let mut pattern = TablePattern::new();
@@ -36,6 +33,7 @@ fn tell_table(rt: &HostRuntime, table: &[u8], letters: Letters) -> Result<(), Tr
 
 pub fn tell(rt: &HostRuntime) -> Result<(), Trouble> {
     println!(rt; "Never D between B and T, by composed tables")?;
+    // composing takes no heap, and writes into room that it is given
     let mut room = [0u8; LONGEST];
     let length = compose(&NEVER, &BETWEEN, &mut room)?;
     println!(rt; "  composed: {length} bytes, {} states", room[0])?;
