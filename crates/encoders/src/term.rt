@@ -7,7 +7,7 @@ pub trait Term: Copy {
 
     ghost fits: { Self → Self.Sample → Bool };
 
-    // A term for the places of a list that are not in use; nothing asks what it fits.
+    // A term for the places of a list that are not in use, since lists have no heap; nothing asks what it fits.
     fn filler() -> Self;
 
     fn fits(&self, sample: Self::Sample) -> bool

@@ -2,7 +2,8 @@ ghost use Rattle.std.specs.Prelude.{◌≡◌, ◌<◌, ◌≤◌, ⊤, length, 
 
 use std::alloc::AllocError;
 
-// At most N items, kept in the value itself: the first `count` places.
+// At most N items, kept in the value itself: the first `count` places. `arrayvec` has no vector that is `Copy`,
+// and the settings that are made of these are.
 pub struct Few<T, const N: usize> {
     places: [T; N],
     count: usize,

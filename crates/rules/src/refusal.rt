@@ -14,6 +14,7 @@ pub enum SampleRefusal {
     Letter,
 }
 
+// Reports and C callers know a refusal by its number.
 impl SampleRefusal {
     pub fn number(self) -> u8
         ensures { result ≡ sample_number self }
@@ -38,6 +39,7 @@ pub enum SettingRefusal {
     Full,
 }
 
+// Reports and C callers know a refusal by its number.
 impl SettingRefusal {
     pub fn number(self) -> u8
         ensures { result ≡ setting_number self }
