@@ -13,6 +13,7 @@ pub fn spans(chain: &[u8], words: &[u16]) -> bool {
     if others.is_empty() {
         return rest.is_empty();
     }
+    // A loop and no `any`, in whose closure the function would call itself by two others.
     for at in 0..rest.len() {
         if spans(others, &rest[at..]) {
             return true;

@@ -90,6 +90,14 @@ impl From<Why> for Refusal {
 }
 
 impl Stop {
+    // The refusal, unless memory is what was missing.
+    pub fn refusal(self) -> Result<Refusal, AllocError> {
+        match self {
+            Stop::Refused(refusal) => Ok(refusal),
+            Stop::NoMemory(error) => Err(error),
+        }
+    }
+
     // A refusal that blames the byte at a place.
     pub fn at(self, place: usize) -> Stop {
         match self {
