@@ -10,7 +10,7 @@ ghost use Rattle.framing.specs.Framed.{fault_number, announcement, parts_of, spl
 // The longest input that a program takes, in bytes.
 pub const MOST_INPUT: usize = 60_000;
 
-// A length is written in four bytes, high byte first.
+// A length, or a record's count, is written in four bytes, high byte first, before what it is of.
 pub const PREFIX: usize = 4;
 
 #[derive(Clone, Copy, PartialEq, Eq, Debug)]
@@ -22,6 +22,7 @@ pub enum InputFault {
 }
 
 impl InputFault {
+    // A number, since docs/REFUSALS.md promises one that never changes its meaning.
     pub fn number(self) -> u8
         ensures { result ≡ fault_number self }
     {

@@ -18,6 +18,7 @@ pub struct WatchFault {
 }
 
 impl WatchFault {
+    // A number, since docs/REFUSALS.md promises one that never changes its meaning.
     pub fn number(self) -> u8
         ensures { result ≡ watch_number self }
     {
@@ -37,6 +38,7 @@ pub enum PlayFault {
 }
 
 impl PlayFault {
+    // A number, since docs/REFUSALS.md promises one that never changes its meaning.
     pub fn number(self) -> u8
         ensures { result ≡ play_number self }
     {
