@@ -36,7 +36,7 @@ fn compose_bytes<'a>(
 // its length. A refusal writes nothing.
 //
 // The composed table is a pattern table. It accepts a list of words exactly when the pattern table accepts
-// each judged stretch that the scope table cuts out of the list.
+// each judged stretch that the scope table cuts out of the list. The room is the caller's: there is no heap here.
 pub fn compose<'a>(
     pattern: &'a [u8],
     scope: &'a [u8],

@@ -68,7 +68,7 @@ fn put_outcome(outcome: Result<bool, JudgeFault>, line: &mut [u8]) -> usize
 }
 
 // Judges an input and writes the outcome as text, `yes`, `no` or `refused` and the fault's number, ended by a
-// line feed. Gives the text's length.
+// line feed. Gives the text's length. The buffers are the caller's, since there is no heap here.
 pub fn judge_line(input: &[u8], scratch: &mut [u8], line: &mut [u8]) -> Result<usize, LineFault>
     ensures value { result ≡ (if nat_lt (length line.old) 12 then Err Room else Ok (length (line_of (input_judged input.now (length scratch.old))))) }
     ensures short { IfOk result (λ n. n ≤ 12) }

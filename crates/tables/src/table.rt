@@ -17,8 +17,8 @@ static MARK_ALL_IN: [u8; 4] = [1, 1, 0, 64];
 pub struct Table<'a> {
     kind: Kind,
     bytes: &'a [u8],
+    // read off the bytes once, so that a word costs no shift: the number of states and the length of a row
     states: usize,
-    // the length of a row
     size: usize,
     ghost lawful: { is_some (checked kind bytes.now) ≡ false },
     ghost counted: { states ≡ states_of bytes.now },
