@@ -1,109 +1,36 @@
 // Runs: a watch over one to three scopes, with calls of all kinds, some of them with damaged bytes.
 use crate::coded;
 use crate::dice::Dice;
-use crate::library::{AnyEncoder, encoder_of, pattern_of, scope_of, table_pattern, table_scope};
-use crate::supply::Supply;
-use crate::tally::Tally;
+use crate::library::{AnyScope, encoder_of, pattern_of, scope_of};
+use crate::reply::{Replies, Reply};
+use crate::supply::{Drawn, PatternKind, ScopeKind, Supply};
+use crate::tally::{Family, Tally};
+use kinds::choice::Choice;
 use layer::over::Over;
-use rules::encoder::Encoder;
 use rules::pattern::Pattern;
 use runs::{Answer, Call, run};
 use second::coding::{Coding, CodingKind, Setting};
 use second::pattern::PatternText;
-use second::replies::{Refusal, Reply};
 use second::scope::ScopeText;
+use second::text::Text;
 use second::watch::WatchText;
-use std::alloc::Global;
-use watch::fault::{PlayFault, WatchFault};
+use std::alloc::{AllocError, Global};
 
-// A call, by the part of the case's bytes that it is made with.
-#[derive(Clone, Copy, Debug)]
+// A call of a watch, with its bytes.
+#[derive(Debug, Drop)]
 pub enum Step {
-    Feed(usize, usize),
-    Play(usize, usize),
+    Feed(Vec<u8>),
+    Play(Vec<u8>),
     NewRecord,
     Verdict,
 }
 
-fn bytes_of(pool: &[u8], from: usize, to: usize) -> &[u8] {
-    match pool.get(from..to) {
-        Some(bytes) => bytes,
-        None => &[],
-    }
-}
-
-fn call_of(step: Step, pool: &[u8]) -> Call<'_> {
-    match step {
-        Step::Feed(from, to) => Call::Feed(bytes_of(pool, from, to)),
-        Step::Play(from, to) => Call::Play(bytes_of(pool, from, to)),
-        Step::NewRecord => Call::NewRecord,
-        Step::Verdict => Call::Verdict,
-    }
-}
-
-// Appends a record of some samples; its count or its bytes are wrong now and then.
-fn push_record(dice: &mut Dice, kind: CodingKind, pool: &mut Vec<u8>) {
-    let count = dice.byte_below(6);
-    let wrong = dice.one_in(12);
-    for _ in 0..3 {
-        let _ = pool.push(u8::from(dice.one_in(60)));
-    }
-    let _ = pool.push(if wrong { dice.byte_below(8) } else { count });
-    for _ in 0..count {
-        coded::push_sample(dice, kind, pool);
-    }
-    coded::cut_or_add(dice, pool);
-}
-
-// A step, and its bytes at the end of the pool.
-fn push_step(dice: &mut Dice, kind: CodingKind, pool: &mut Vec<u8>) -> Step {
-    let from = pool.len();
-    match dice.below(20) {
-        0 => Step::NewRecord,
-        1..=4 => Step::Verdict,
-        5..=9 => {
-            push_record(dice, kind, pool);
-            Step::Play(from, pool.len())
-        }
-        _ => {
-            coded::push_sample(dice, kind, pool);
-            if dice.one_in(15) {
-                let _ = pool.push(dice.byte());
-            }
-            Step::Feed(from, pool.len())
-        }
-    }
-}
-
-fn refused_sample(fault: WatchFault, place: Option<usize>) -> Reply {
-    Reply::Refused(Refusal {
-        number: fault.number(),
-        place,
-        count: Some(fault.count),
-    })
-}
-
-fn refused_record(fault: PlayFault) -> Reply {
-    match fault {
-        PlayFault::Framing => Reply::Refused(Refusal {
-            number: fault.number(),
-            place: None,
-            count: None,
-        }),
-        PlayFault::Sample { place, fault } => refused_sample(fault, Some(place)),
-    }
-}
-
-// What the library answered, as a reply.
-pub fn reply_of(answer: Answer) -> Reply {
-    match answer {
-        Answer::Fed(Ok(count)) => Reply::Accepted(count),
-        Answer::Fed(Err(fault)) => refused_sample(fault, None),
-        Answer::Played(Ok(count)) => Reply::Accepted(count),
-        Answer::Played(Err(fault)) => refused_record(fault),
-        Answer::Begun => Reply::Begun,
-        Answer::Judged(kept) => Reply::Judged(kept),
-    }
+#[derive(Clone, Copy)]
+enum StepKind {
+    Feed,
+    Play,
+    NewRecord,
+    Verdict,
 }
 
 // The rule of a case: its scopes, the outermost first, and its pattern.
@@ -115,185 +42,197 @@ pub struct Rule<'a> {
     pub pattern: PatternText<'a>,
 }
 
-fn run_outer<P: Pattern + Drop>(
-    heap: Global,
-    encoder: AnyEncoder,
-    rule: Rule<'_>,
-    below: P,
-    calls: &[Call<'_>],
-) -> Vec<Answer> {
-    let answers = match rule.outer {
-        ScopeText::Table(table) => run(heap, encoder, table_scope(table.bytes), below, calls),
-        text => run(heap, encoder, scope_of(text), below, calls),
-    };
-    match answers {
-        Ok(answers) => answers,
-        Err(_) => Vec::new(heap),
-    }
-}
-
-fn run_middle<P: Pattern + Drop>(
-    heap: Global,
-    encoder: AnyEncoder,
-    rule: Rule<'_>,
-    below: P,
-    calls: &[Call<'_>],
-) -> Vec<Answer> {
-    match rule.middle {
-        None => run_outer(heap, encoder, rule, below, calls),
-        Some(ScopeText::Table(table)) => {
-            let layer = Over::new(table_scope(table.bytes), below);
-            run_outer(heap, encoder, rule, layer, calls)
-        }
-        Some(text) => run_outer(heap, encoder, rule, Over::new(scope_of(text), below), calls),
-    }
-}
-
-fn run_inner<P: Pattern + Drop>(
-    heap: Global,
-    encoder: AnyEncoder,
-    rule: Rule<'_>,
-    below: P,
-    calls: &[Call<'_>],
-) -> Vec<Answer> {
-    match rule.inner {
-        None => run_middle(heap, encoder, rule, below, calls),
-        Some(ScopeText::Table(table)) => {
-            let layer = Over::new(table_scope(table.bytes), below);
-            run_middle(heap, encoder, rule, layer, calls)
-        }
-        Some(text) => run_middle(heap, encoder, rule, Over::new(scope_of(text), below), calls),
-    }
-}
-
-fn run_rule(heap: Global, encoder: AnyEncoder, rule: Rule<'_>, calls: &[Call<'_>]) -> Vec<Answer> {
-    match rule.pattern {
-        PatternText::Table(table) => {
-            run_inner(heap, encoder, rule, table_pattern(table.bytes), calls)
-        }
-        text => run_inner(heap, encoder, rule, pattern_of(text), calls),
-    }
-}
-
-// The scopes as they are held once set, the outermost first.
-fn held_scopes<'a>(heap: Global, rule: Rule<'a>) -> Vec<ScopeText<'a>> {
-    let mut scopes = Vec::new(heap);
-    let _ = scopes.push(rule.outer.held());
-    if let Some(scope) = rule.middle {
-        let _ = scopes.push(scope.held());
-    }
-    if let Some(scope) = rule.inner {
-        let _ = scopes.push(scope.held());
-    }
-    scopes
-}
-
-fn rule_of<'a>(dice: &mut Dice, supply: &'a Supply) -> Rule<'a> {
-    let depth = dice.below(3);
-    let kinds = (dice.below(8), dice.below(8), dice.below(8));
-    let outer = supply.scope(dice, kinds.0);
-    let middle = supply.scope(dice, kinds.1);
-    let inner = supply.scope(dice, kinds.2);
-    let pattern = dice.below(9);
-    Rule {
-        outer,
-        middle: if depth > 0 { Some(middle) } else { None },
-        inner: if depth > 1 { Some(inner) } else { None },
-        pattern: supply.pattern(dice, pattern),
-    }
-}
-
-// An encoder with its settings, and the calls of a watch with their bytes.
+// An encoder with its settings, and the calls of a watch.
 #[derive(Debug, Drop)]
 pub struct Story {
     pub kind: CodingKind,
     pub settings: Vec<Setting>,
-    pub pool: Vec<u8>,
     pub steps: Vec<Step>,
 }
 
-impl Story {
-    fn new(heap: Global, dice: &mut Dice, steps: usize) -> Story {
-        let kind = coded::kind(dice);
-        let settings = coded::settings(heap, dice, kind);
-        let mut pool = Vec::new(heap);
-        let mut made = Vec::new(heap);
-        for _ in 0..steps {
-            let _ = made.push(push_step(dice, kind, &mut pool));
+impl Step {
+    fn call(&self) -> Call<'_> {
+        match self {
+            Step::Feed(sample) => Call::Feed(sample),
+            Step::Play(record) => Call::Play(record),
+            Step::NewRecord => Call::NewRecord,
+            Step::Verdict => Call::Verdict,
         }
-        let _ = made.push(Step::Verdict);
-        Story {
-            kind,
-            settings,
-            pool,
-            steps: made,
-        }
-    }
-
-    // What the library replies.
-    pub fn ours(&self, heap: Global, rule: Rule<'_>) -> Vec<Reply> {
-        let mut calls = Vec::new(heap);
-        for step in self.steps.iter() {
-            let _ = calls.push(call_of(*step, &self.pool));
-        }
-        let answers = run_rule(heap, encoder_of(self.kind, &self.settings), rule, &calls);
-        let mut replies = Vec::new(heap);
-        for answer in answers.iter() {
-            let _ = replies.push(reply_of(*answer));
-        }
-        replies
-    }
-
-    pub fn theirs(&self, heap: Global, rule: Rule<'_>) -> Vec<Reply> {
-        let mut coding = Coding::new(heap, self.kind);
-        for setting in self.settings.iter() {
-            let _ = coding.set(heap, *setting);
-        }
-        let mut watch = WatchText::new(heap, coding);
-        let scopes = held_scopes(heap, rule);
-        let pattern = rule.pattern.held();
-        let mut replies = Vec::new(heap);
-        for step in self.steps.iter() {
-            let reply = match call_of(*step, &self.pool) {
-                Call::Feed(sample) => watch.feed(heap, sample),
-                Call::Play(record) => watch.play(heap, record),
-                Call::NewRecord => watch.new_record(heap),
-                Call::Verdict => watch.verdict(heap, &scopes, &pattern),
-            };
-            let _ = replies.push(reply);
-        }
-        replies
     }
 
     fn size(&self) -> usize {
-        self.pool.len().saturating_add(self.settings.len())
+        match self {
+            Step::Feed(bytes) | Step::Play(bytes) => bytes.len(),
+            Step::NewRecord | Step::Verdict => 0,
+        }
+    }
+
+    fn any(dice: &mut Dice, kind: CodingKind) -> Result<Step, AllocError> {
+        let choices = [
+            (1, StepKind::NewRecord),
+            (4, StepKind::Verdict),
+            (5, StepKind::Play),
+        ];
+        match dice.choose(20, &choices, StepKind::Feed) {
+            StepKind::NewRecord => Ok(Step::NewRecord),
+            StepKind::Verdict => Ok(Step::Verdict),
+            StepKind::Play => Ok(Step::Play(record(dice, kind)?)),
+            StepKind::Feed => Ok(Step::Feed(sample(dice, kind)?)),
+        }
+    }
+}
+
+// A record of some samples; its count or its bytes are wrong now and then.
+fn record(dice: &mut Dice, kind: CodingKind) -> Result<Vec<u8>, AllocError> {
+    let count = dice.byte_below(6);
+    let wrong = dice.one_in(12);
+    let heap = dice.heap;
+    let mut record: Vec<u8> = (0..3).map(|_| u8::from(dice.one_in(60))).collect(heap)?;
+    record.push(if wrong { dice.byte_below(8) } else { count })?;
+    for _ in 0..count {
+        coded::push_sample(dice, kind, &mut record)?;
+    }
+    coded::cut_or_add(dice, &mut record)?;
+    Ok(record)
+}
+
+// A sample, now and then with a byte too many.
+fn sample(dice: &mut Dice, kind: CodingKind) -> Result<Vec<u8>, AllocError> {
+    let mut sample = Vec::new(dice.heap);
+    coded::push_sample(dice, kind, &mut sample)?;
+    if dice.one_in(15) {
+        sample.push(dice.byte())?;
+    }
+    Ok(sample)
+}
+
+// What the library answered, as a reply.
+fn reply_of(answer: Answer) -> Reply {
+    match answer {
+        Answer::Fed(answer) => Reply::of(answer.map(|count| Reply::Accepted(count as usize))),
+        Answer::Played(answer) => Reply::of(answer.map(|count| Reply::Accepted(count as usize))),
+        Answer::Begun => Reply::Done,
+        Answer::Judged(kept) => Reply::Judged(kept),
+    }
+}
+
+// A pattern under a scope, or alone where there is none.
+fn under<'a, P: Pattern>(
+    scope: Option<ScopeText<'a>>,
+    below: P,
+) -> Choice<P, Over<AnyScope<'a>, P>> {
+    match scope {
+        None => Choice::First(below),
+        Some(text) => Choice::Second(Over::new(scope_of(text), below)),
+    }
+}
+
+impl<'a> Rule<'a> {
+    fn any(dice: &mut Dice, supply: &'a Supply) -> Rule<'a> {
+        let depth = dice.below(3);
+        let kinds = [
+            ScopeKind::any(dice),
+            ScopeKind::any(dice),
+            ScopeKind::any(dice),
+        ];
+        let [outer, middle, inner] = kinds.map(|kind| ScopeText::drawn(dice, supply, kind));
+        let pattern = PatternKind::any(dice);
+        Rule {
+            outer,
+            middle: if depth > 0 { Some(middle) } else { None },
+            inner: if depth > 1 { Some(inner) } else { None },
+            pattern: PatternText::drawn(dice, supply, pattern),
+        }
+    }
+
+    // The scopes as they are held once set, the outermost first.
+    fn held_scopes(&self, heap: Global) -> Result<Vec<ScopeText<'a>>, AllocError> {
+        [Some(self.outer), self.middle, self.inner]
+            .into_iter()
+            .flatten()
+            .map(|scope| scope.held())
+            .collect(heap)
+    }
+}
+
+impl Story {
+    fn new(dice: &mut Dice, steps: usize) -> Result<Story, AllocError> {
+        let kind = coded::kind(dice);
+        let settings = coded::settings(dice, kind)?;
+        let heap = dice.heap;
+        let mut steps: Vec<Step> = (0..steps).map(|_| Step::any(dice, kind)).try_collect(heap)?;
+        steps.push(Step::Verdict)?;
+        Ok(Story {
+            kind,
+            settings,
+            steps,
+        })
+    }
+
+    // What the library replies.
+    pub fn ours(&self, heap: Global, rule: Rule<'_>) -> Result<Vec<Reply>, AllocError> {
+        let calls: Vec<Call<'_>> = self.steps.iter().map(|step| step.call()).collect(heap)?;
+        let encoder = encoder_of(self.kind, &self.settings);
+        let inner = under(rule.inner, pattern_of(rule.pattern));
+        let middle = under(rule.middle, inner);
+        let answers = run(heap, encoder, scope_of(rule.outer), middle, &calls)?;
+        answers.iter().map(|answer| reply_of(*answer)).collect(heap)
+    }
+
+    pub fn theirs(&self, heap: Global, rule: Rule<'_>) -> Result<Vec<Reply>, AllocError> {
+        let mut coding = Coding::new(heap, self.kind);
+        for setting in self.settings.iter() {
+            if let Err(stop) = coding.set(*setting) {
+                stop.refusal()?;
+            }
+        }
+        let mut watch = WatchText::new(heap, coding);
+        let scopes = rule.held_scopes(heap)?;
+        let pattern = rule.pattern.held();
+        let mut replies = Vec::new(heap);
+        for step in self.steps.iter() {
+            let reply = match step {
+                Step::Feed(sample) => Reply::heard(watch.feed(sample).map(Reply::Accepted))?,
+                Step::Play(record) => Reply::heard(watch.play(record).map(Reply::Accepted))?,
+                Step::NewRecord => {
+                    watch.new_record();
+                    Reply::Done
+                }
+                Step::Verdict => Reply::Judged(watch.verdict(&scopes, &pattern)?),
+            };
+            replies.push(reply)?;
+        }
+        Ok(replies)
+    }
+
+    fn size(&self) -> usize {
+        self.steps.iter().fold(
+            self.settings.len(),
+            |size, step| size.saturating_add(step.size()),
+        )
     }
 }
 
 // Puts a story to both.
-pub fn compare(heap: Global, story: &Story, rule: Rule<'_>, tally: &mut Tally) {
-    let ours = story.ours(heap, rule);
-    let theirs = story.theirs(heap, rule);
-    if tally.agree(&ours, &theirs) || !tally.is_smaller(story.size()) {
-        return;
-    }
-    let case = format!(in heap; "{story:?} under {rule:?}");
-    tally.keep(heap, story.size(), case, &ours, &theirs);
+pub fn compare(
+    heap: Global,
+    story: &Story,
+    rule: Rule<'_>,
+    tally: &mut Tally,
+) -> Result<(), AllocError> {
+    let ours = story.ours(heap, rule)?;
+    let theirs = story.theirs(heap, rule)?;
+    let both = Replies {
+        ours: &ours,
+        theirs: &theirs,
+    };
+    tally.hold(story.size(), both, format_args!("{story:?} under {rule:?}"))
 }
 
-// One run, made with both.
-fn compare_run(heap: Global, dice: &mut Dice, steps: usize, tally: &mut Tally) {
-    let supply = Supply::new(heap, dice);
-    let rule = rule_of(dice, &supply);
-    let story = Story::new(heap, dice, steps);
-    compare(heap, &story, rule, tally);
-}
-
-pub fn family(heap: Global, cases: usize) -> Tally {
-    let mut tally = Tally::new("runs");
-    let mut dice = Dice::new(2);
-    for case in 0..cases {
-        compare_run(heap, &mut dice, case % 9, &mut tally);
-    }
-    tally
+// One run of so many steps, made with both.
+pub fn compare_run(family: &mut Family, steps: usize) -> Result<(), AllocError> {
+    let supply = Supply::new(&mut family.dice)?;
+    let rule = Rule::any(&mut family.dice, &supply);
+    let story = Story::new(&mut family.dice, steps)?;
+    compare(family.dice.heap, &story, rule, &mut family.tally)
 }

@@ -1,12 +1,17 @@
-// A small generator of numbers: the same seed gives the same numbers on every machine.
+use std::alloc::Global;
+
+// A small generator of numbers, with the memory for what is made of them: the same seed gives the same numbers on every
+// machine.
 #[derive(Clone, Copy)]
 pub struct Dice {
+    pub heap: Global,
     state: u64,
 }
 
 impl Dice {
-    pub fn new(seed: u64) -> Dice {
+    pub fn new(heap: Global, seed: u64) -> Dice {
         Dice {
+            heap,
             state: seed.wrapping_mul(0x9E37_79B9_7F4A_7C15) | 1,
         }
     }
@@ -28,6 +33,18 @@ impl Dice {
 
     pub fn one_in(&mut self, n: usize) -> bool {
         self.below(n) == 0
+    }
+
+    // Each choice as often in n as the number before it says, and the last one otherwise.
+    pub fn choose<T: Copy>(&mut self, n: usize, choices: &[(usize, T)], last: T) -> T {
+        let mut left = self.below(n);
+        for (times, choice) in choices {
+            if left < *times {
+                return *choice;
+            }
+            left -= *times;
+        }
+        last
     }
 
     pub fn byte(&mut self) -> u8 {

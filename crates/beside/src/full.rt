@@ -4,66 +4,56 @@ use crate::tally::Tally;
 use second::coding::CodingKind;
 use second::pattern::PatternText;
 use second::scope::ScopeText;
-use std::alloc::Global;
+use std::alloc::{AllocError, Global};
 
 const MOST_SAMPLES: usize = 1_000_000;
 
-// Appends a record of so many samples of zeros, and gives the step that plays it.
-fn push_record(pool: &mut Vec<u8>, count: usize, size: usize) -> Step {
-    let from = pool.len();
-    let _ = pool.push(0);
-    let _ = pool.push((count / 65_536 % 256) as u8);
-    let _ = pool.push((count / 256 % 256) as u8);
-    let _ = pool.push((count % 256) as u8);
-    for _ in 0..count.saturating_mul(size) {
-        let _ = pool.push(0);
-    }
-    Step::Play(from, pool.len())
+// A record of so many samples of zeros, played.
+fn played(heap: Global, count: usize, size: usize) -> Result<Step, AllocError> {
+    let number = u32::try_from(count).unwrap_or(u32::MAX);
+    let mut record = Vec::from_slice(heap, &number.to_be_bytes())?;
+    record.resize(count.saturating_mul(size).saturating_add(4), 0)?;
+    Ok(Step::Play(record))
+}
+
+// A sample of zeros, fed.
+fn fed(heap: Global, size: usize) -> Result<Step, AllocError> {
+    Ok(Step::Feed(vec![in heap; 0; size]?))
 }
 
 // Fills a watch all but a few samples, goes on past its limit by feeding and by playing, and begins again.
-fn steps(heap: Global, pool: &mut Vec<u8>, size: usize, left: usize) -> Vec<Step> {
-    let sample = Step::Feed(4, size.saturating_add(4));
-    let most = push_record(pool, MOST_SAMPLES.saturating_sub(left), size);
-    let two = push_record(pool, 2, size);
-    let none = push_record(pool, 0, size);
-    let wrong_size = Step::Feed(0, 2);
-    let cut = Step::Play(0, 3);
-    let mut steps = Vec::new(heap);
-    for step in [
-        most,
-        sample,
-        sample,
-        two,
+fn steps(heap: Global, size: usize, left: usize) -> Result<Vec<Step>, AllocError> {
+    let wrong_size = Step::Feed(vec![in heap; 0, 0]?);
+    let cut = Step::Play(vec![in heap; 0, 0, 0]?);
+    let steps = vec![in heap;
+        played(heap, MOST_SAMPLES.saturating_sub(left), size)?,
+        fed(heap, size)?,
+        fed(heap, size)?,
+        played(heap, 2, size)?,
         wrong_size,
-        none,
+        played(heap, 0, size)?,
         cut,
         Step::NewRecord,
-        sample,
-    ] {
-        let _ = steps.push(step);
-    }
-    let _ = steps.push(Step::Verdict);
-    steps
+        fed(heap, size)?,
+        Step::Verdict,
+    ]?;
+    Ok(steps)
 }
 
-fn story(heap: Global, kind: CodingKind, left: usize) -> Story {
+fn story(heap: Global, kind: CodingKind, left: usize) -> Result<Story, AllocError> {
     let size = match kind {
         CodingKind::Events => 3,
         _ => 1,
     };
-    let mut pool = Vec::new(heap);
-    let steps = steps(heap, &mut pool, size, left);
-    Story {
+    Ok(Story {
         kind,
         settings: Vec::new(heap),
-        pool,
-        steps,
-    }
+        steps: steps(heap, size, left)?,
+    })
 }
 
-pub fn family(heap: Global) -> Tally {
-    let mut tally = Tally::new("full watches");
+pub fn watches(heap: Global) -> Result<Tally, AllocError> {
+    let mut tally = Tally::new(heap);
     let rule = Rule {
         outer: ScopeText::Globally,
         middle: None,
@@ -76,9 +66,8 @@ pub fn family(heap: Global) -> Tally {
         CodingKind::Letters,
     ] {
         for left in 0..5 {
-            let story = story(heap, kind, left);
-            compare(heap, &story, rule, &mut tally);
+            compare(heap, &story(heap, kind, left)?, rule, &mut tally)?;
         }
     }
-    tally
+    Ok(tally)
 }

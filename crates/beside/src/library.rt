@@ -1,4 +1,5 @@
 // The library's side: its kinds, set up as the texts say. What a setting refuses stays as it was.
+use crate::reply::Refusal;
 use chains::precedes::Precedes;
 use chains::responds::Responds;
 use encoders::contacts::Contacts;
@@ -10,7 +11,6 @@ use patterns::eventually::Eventually;
 use patterns::form::Form;
 use patterns::never::Never;
 use patterns::precisely::Precisely;
-use rules::refusal::SettingRefusal;
 use scopes::after::After;
 use scopes::after_unless::AfterUnless;
 use scopes::before::Before;
@@ -26,7 +26,9 @@ type Sighted = Choice<Before, After>;
 
 type Spanned = Choice<Between, AfterUnless>;
 
-pub type AnyScope = Choice<Globally, Choice<Sighted, Spanned>>;
+type Whole<'a> = Choice<Globally, TableScope<'a>>;
+
+pub type AnyScope<'a> = Choice<Whole<'a>, Choice<Sighted, Spanned>>;
 
 type Plain = Choice<Always, Never>;
 
@@ -34,260 +36,244 @@ type Counted = Choice<Eventually, Precisely>;
 
 type Chained = Choice<Precedes, Responds>;
 
-pub type AnyPattern = Choice<Plain, Choice<Counted, Chained>>;
+pub type AnyPattern<'a> = Choice<Choice<Plain, TablePattern<'a>>, Choice<Counted, Chained>>;
 
 pub type AnyEncoder = Choice<Contacts, Choice<Moisture, Letters>>;
 
-// What takes its settings from a text of its kind, and says by which number they are refused, if they are.
-pub trait SettableEncoder {
-    fn set(&mut self, text: Setting) -> Option<u8>;
+// What takes its settings from a text of its kind.
+pub trait Settable<T> {
+    fn set(&mut self, text: T) -> Result<(), Refusal>;
 }
 
-pub trait SettableScope {
-    fn set(&mut self, text: ScopeText<'_>) -> Option<u8>;
-}
-
-pub trait SettablePattern {
-    fn set(&mut self, text: PatternText<'_>) -> Option<u8>;
-}
-
-fn set_scope<S: SettableScope>(new: S, text: ScopeText<'_>) -> S {
-    let mut scope = new;
-    let _ = scope.set(text);
-    scope
-}
-
-fn set_pattern<P: SettablePattern>(new: P, text: PatternText<'_>) -> P {
-    let mut pattern = new;
-    let _ = pattern.set(text);
-    pattern
-}
-
-fn refused(res: Result<(), SettingRefusal>) -> Option<u8> {
-    match res {
-        Ok(()) => None,
-        Err(refusal) => Some(refusal.number()),
-    }
-}
-
-impl SettableEncoder for Contacts {
-    fn set(&mut self, text: Setting) -> Option<u8> {
-        match text {
-            Setting::Contacts(c) => refused(self.set_contacts(c)),
-            Setting::ContactTerm(term) => {
-                refused(self.add_term(term.condition, term.care, term.want))
-            }
-            _ => None,
-        }
-    }
-}
-
-impl SettableEncoder for Moisture {
-    fn set(&mut self, text: Setting) -> Option<u8> {
-        match text {
-            Setting::EventTerm(term) => {
-                refused(self.add_term(term.condition, term.code, term.low, term.high))
-            }
-            _ => None,
-        }
-    }
-}
-
-impl SettableEncoder for Letters {
-    fn set(&mut self, text: Setting) -> Option<u8> {
-        match text {
-            Setting::Width(width) => refused(self.set_width(width)),
-            _ => None,
-        }
-    }
-}
-
-fn set_all<K: SettableEncoder>(new: K, settings: &[Setting]) -> K {
+// The kind once it was given the settings of a text, which it may have refused.
+fn held<T, K: Settable<T>>(new: K, text: T) -> K {
     let mut kind = new;
-    for setting in settings {
-        let _ = kind.set(*setting);
-    }
+    let _ = kind.set(text);
     kind
 }
 
-pub fn encoder_of(kind: CodingKind, settings: &[Setting]) -> AnyEncoder {
-    match kind {
-        CodingKind::Contacts => Choice::First(set_all(Contacts::new(), settings)),
-        CodingKind::Events => Choice::Second(Choice::First(set_all(Moisture::new(), settings))),
-        CodingKind::Letters => Choice::Second(Choice::Second(set_all(Letters::new(), settings))),
+impl<T, A: Settable<T>, B: Settable<T>> Settable<T> for Choice<A, B> {
+    fn set(&mut self, text: T) -> Result<(), Refusal> {
+        match self {
+            Choice::First(a) => a.set(text),
+            Choice::Second(b) => b.set(text),
+        }
     }
+}
+
+impl Settable<Setting> for Contacts {
+    fn set(&mut self, text: Setting) -> Result<(), Refusal> {
+        match text {
+            Setting::Contacts(c) => self.set_contacts(c)?,
+            Setting::ContactTerm(term) => {
+                self.add_term(term.condition, term.ask.care, term.ask.want)?;
+            }
+            _ => {}
+        }
+        Ok(())
+    }
+}
+
+impl Settable<Setting> for Moisture {
+    fn set(&mut self, text: Setting) -> Result<(), Refusal> {
+        if let Setting::EventTerm(term) = text {
+            self.add_term(term.condition, term.ask.code, term.ask.low, term.ask.high)?;
+        }
+        Ok(())
+    }
+}
+
+impl Settable<Setting> for Letters {
+    fn set(&mut self, text: Setting) -> Result<(), Refusal> {
+        if let Setting::Width(width) = text {
+            self.set_width(width)?;
+        }
+        Ok(())
+    }
+}
+
+// A new encoder of the kind.
+pub fn new_encoder(kind: CodingKind) -> AnyEncoder {
+    match kind {
+        CodingKind::Contacts => Choice::First(Contacts::new()),
+        CodingKind::Events => Choice::Second(Choice::First(Moisture::new())),
+        CodingKind::Letters => Choice::Second(Choice::Second(Letters::new())),
+    }
+}
+
+pub fn encoder_of(kind: CodingKind, settings: &[Setting]) -> AnyEncoder {
+    settings.iter().fold(
+        new_encoder(kind),
+        |encoder, setting| held(encoder, *setting),
+    )
 }
 
 // Globally has no settings.
-impl SettableScope for Globally {
-    fn set(&mut self, _text: ScopeText<'_>) -> Option<u8> {
-        None
+impl<'a> Settable<ScopeText<'a>> for Globally {
+    fn set(&mut self, _text: ScopeText<'a>) -> Result<(), Refusal> {
+        Ok(())
     }
 }
 
-impl SettableScope for Before {
-    fn set(&mut self, text: ScopeText<'_>) -> Option<u8> {
-        match text {
-            ScopeText::Before(c) => refused(self.set_condition(c)),
-            _ => None,
+impl<'a> Settable<ScopeText<'a>> for Before {
+    fn set(&mut self, text: ScopeText<'a>) -> Result<(), Refusal> {
+        if let ScopeText::Before(c) = text {
+            self.set_condition(c)?;
         }
+        Ok(())
     }
 }
 
-impl SettableScope for After {
-    fn set(&mut self, text: ScopeText<'_>) -> Option<u8> {
-        match text {
-            ScopeText::After(c) => refused(self.set_condition(c)),
-            _ => None,
+impl<'a> Settable<ScopeText<'a>> for After {
+    fn set(&mut self, text: ScopeText<'a>) -> Result<(), Refusal> {
+        if let ScopeText::After(c) = text {
+            self.set_condition(c)?;
         }
+        Ok(())
     }
 }
 
-impl SettableScope for Between {
-    fn set(&mut self, text: ScopeText<'_>) -> Option<u8> {
-        match text {
-            ScopeText::Between(q, r) => refused(self.set_conditions(q, r)),
-            _ => None,
+impl<'a> Settable<ScopeText<'a>> for Between {
+    fn set(&mut self, text: ScopeText<'a>) -> Result<(), Refusal> {
+        if let ScopeText::Between(q, r) = text {
+            self.set_conditions(q, r)?;
         }
+        Ok(())
     }
 }
 
-impl SettableScope for AfterUnless {
-    fn set(&mut self, text: ScopeText<'_>) -> Option<u8> {
-        match text {
-            ScopeText::AfterUnless(q, r) => refused(self.set_conditions(q, r)),
-            _ => None,
+impl<'a> Settable<ScopeText<'a>> for AfterUnless {
+    fn set(&mut self, text: ScopeText<'a>) -> Result<(), Refusal> {
+        if let ScopeText::AfterUnless(q, r) = text {
+            self.set_conditions(q, r)?;
         }
+        Ok(())
     }
 }
 
-// The scope of the text, where it is not a table's.
-pub fn scope_of(text: ScopeText<'_>) -> AnyScope {
+impl<'a> Settable<ScopeText<'a>> for TableScope<'a> {
+    fn set(&mut self, text: ScopeText<'a>) -> Result<(), Refusal> {
+        if let ScopeText::Table(table) = text {
+            self.load(table.bytes)?;
+        }
+        Ok(())
+    }
+}
+
+// A new scope of the text's kind.
+pub fn new_scope<'a>(text: ScopeText<'a>) -> AnyScope<'a> {
     match text {
-        ScopeText::Globally | ScopeText::Table(_) => Choice::First(Globally::new()),
-        ScopeText::Before(_) => {
-            Choice::Second(Choice::First(Choice::First(set_scope(Before::new(), text))))
-        }
-        ScopeText::After(_) => {
-            Choice::Second(Choice::First(Choice::Second(set_scope(After::new(), text))))
-        }
-        ScopeText::Between(_, _) => {
-            Choice::Second(Choice::Second(Choice::First(set_scope(Between::new(), text))))
-        }
+        ScopeText::Globally => Choice::First(Choice::First(Globally::new())),
+        ScopeText::Table(_) => Choice::First(Choice::Second(TableScope::new())),
+        ScopeText::Before(_) => Choice::Second(Choice::First(Choice::First(Before::new()))),
+        ScopeText::After(_) => Choice::Second(Choice::First(Choice::Second(After::new()))),
+        ScopeText::Between(_, _) => Choice::Second(Choice::Second(Choice::First(Between::new()))),
         ScopeText::AfterUnless(_, _) => {
-            Choice::Second(Choice::Second(Choice::Second(set_scope(AfterUnless::new(), text))))
+            Choice::Second(Choice::Second(Choice::Second(AfterUnless::new())))
         }
     }
 }
 
-pub fn table_scope<'a>(bytes: &'a [u8]) -> TableScope<'a> {
-    let mut scope = TableScope::new();
-    let _ = scope.load(bytes);
-    scope
+pub fn scope_of<'a>(text: ScopeText<'a>) -> AnyScope<'a> {
+    held(new_scope(text), text)
 }
 
-pub fn form_of(times: Times) -> Form {
-    match times {
-        Times::Exactly(_) => Form::Exactly,
-        Times::AtLeast(_) => Form::AtLeast,
-        Times::AtMost(_) => Form::AtMost,
+fn form_of(times: Times) -> Form {
+    match times.form {
+        second::pattern::Form::Exactly => Form::Exactly,
+        second::pattern::Form::AtLeast => Form::AtLeast,
+        second::pattern::Form::AtMost => Form::AtMost,
     }
 }
 
-fn number_of(times: Times) -> u16 {
-    match times {
-        Times::Exactly(t) => t,
-        Times::AtLeast(t) => t,
-        Times::AtMost(t) => t,
-    }
-}
-
-impl SettablePattern for Always {
-    fn set(&mut self, text: PatternText<'_>) -> Option<u8> {
-        match text {
-            PatternText::Always(c) => refused(self.set_condition(c)),
-            _ => None,
+impl<'a> Settable<PatternText<'a>> for Always {
+    fn set(&mut self, text: PatternText<'a>) -> Result<(), Refusal> {
+        if let PatternText::Always(c) = text {
+            self.set_condition(c)?;
         }
+        Ok(())
     }
 }
 
-impl SettablePattern for Never {
-    fn set(&mut self, text: PatternText<'_>) -> Option<u8> {
-        match text {
-            PatternText::Never(c) => refused(self.set_condition(c)),
-            _ => None,
+impl<'a> Settable<PatternText<'a>> for Never {
+    fn set(&mut self, text: PatternText<'a>) -> Result<(), Refusal> {
+        if let PatternText::Never(c) = text {
+            self.set_condition(c)?;
         }
+        Ok(())
     }
 }
 
-impl SettablePattern for Eventually {
-    fn set(&mut self, text: PatternText<'_>) -> Option<u8> {
-        match text {
-            PatternText::Eventually(times, c) => {
-                self.set_times(number_of(times));
-                refused(self.set_condition(c))
-            }
-            _ => None,
+impl<'a> Settable<PatternText<'a>> for Eventually {
+    fn set(&mut self, text: PatternText<'a>) -> Result<(), Refusal> {
+        if let PatternText::Eventually(times, c) = text {
+            self.set_times(times.number);
+            self.set_condition(c)?;
         }
+        Ok(())
     }
 }
 
-impl SettablePattern for Precisely {
-    fn set(&mut self, text: PatternText<'_>) -> Option<u8> {
-        match text {
-            PatternText::Precisely(times, c) => {
-                self.set_times(number_of(times));
-                refused(self.set_condition(c))
-            }
-            _ => None,
+impl<'a> Settable<PatternText<'a>> for Precisely {
+    fn set(&mut self, text: PatternText<'a>) -> Result<(), Refusal> {
+        if let PatternText::Precisely(times, c) = text {
+            self.set_times(times.number);
+            self.set_condition(c)?;
         }
+        Ok(())
     }
 }
 
-impl SettablePattern for Precedes {
-    fn set(&mut self, text: PatternText<'_>) -> Option<u8> {
-        match text {
-            PatternText::Precedes(first, second) => refused(self.set_chains(first, second)),
-            _ => None,
+impl<'a> Settable<PatternText<'a>> for Precedes {
+    fn set(&mut self, text: PatternText<'a>) -> Result<(), Refusal> {
+        if let PatternText::Precedes(first, second) = text {
+            self.set_chains(first, second)?;
         }
+        Ok(())
     }
 }
 
-impl SettablePattern for Responds {
-    fn set(&mut self, text: PatternText<'_>) -> Option<u8> {
-        match text {
-            PatternText::Responds(first, second) => refused(self.set_chains(first, second)),
-            _ => None,
+impl<'a> Settable<PatternText<'a>> for Responds {
+    fn set(&mut self, text: PatternText<'a>) -> Result<(), Refusal> {
+        if let PatternText::Responds(first, second) = text {
+            self.set_chains(first, second)?;
         }
+        Ok(())
     }
 }
 
-// The pattern of the text, where it is not a table's.
-pub fn pattern_of(text: PatternText<'_>) -> AnyPattern {
+impl<'a> Settable<PatternText<'a>> for TablePattern<'a> {
+    fn set(&mut self, text: PatternText<'a>) -> Result<(), Refusal> {
+        if let PatternText::Table(table) = text {
+            self.load(table.bytes)?;
+        }
+        Ok(())
+    }
+}
+
+// A new pattern of the text's kind and form.
+pub fn new_pattern<'a>(text: PatternText<'a>) -> AnyPattern<'a> {
     match text {
-        PatternText::Always(_) | PatternText::Table(_) => {
-            Choice::First(Choice::First(set_pattern(Always::new(), text)))
+        PatternText::Always(_) => Choice::First(Choice::First(Choice::First(Always::new()))),
+        PatternText::Never(_) => Choice::First(Choice::First(Choice::Second(Never::new()))),
+        PatternText::Table(_) => Choice::First(Choice::Second(TablePattern::new())),
+        PatternText::Eventually(times, _) => {
+            let eventually = Eventually::new(form_of(times));
+            Choice::Second(Choice::First(Choice::First(eventually)))
         }
-        PatternText::Never(_) => Choice::First(Choice::Second(set_pattern(Never::new(), text))),
-        PatternText::Eventually(times, _) => Choice::Second(Choice::First(Choice::First(set_pattern(
-            Eventually::new(form_of(times)),
-            text,
-        )))),
-        PatternText::Precisely(times, _) => Choice::Second(Choice::First(Choice::Second(set_pattern(
-            Precisely::new(form_of(times)),
-            text,
-        )))),
+        PatternText::Precisely(times, _) => {
+            let precisely = Precisely::new(form_of(times));
+            Choice::Second(Choice::First(Choice::Second(precisely)))
+        }
         PatternText::Precedes(_, _) => {
-            Choice::Second(Choice::Second(Choice::First(set_pattern(Precedes::new(), text))))
+            Choice::Second(Choice::Second(Choice::First(Precedes::new())))
         }
         PatternText::Responds(_, _) => {
-            Choice::Second(Choice::Second(Choice::Second(set_pattern(Responds::new(), text))))
+            Choice::Second(Choice::Second(Choice::Second(Responds::new())))
         }
     }
 }
 
-pub fn table_pattern<'a>(bytes: &'a [u8]) -> TablePattern<'a> {
-    let mut pattern = TablePattern::new();
-    let _ = pattern.load(bytes);
-    pattern
+pub fn pattern_of<'a>(text: PatternText<'a>) -> AnyPattern<'a> {
+    held(new_pattern(text), text)
 }

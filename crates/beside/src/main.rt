@@ -7,63 +7,69 @@ mod coded;
 mod dice;
 mod full;
 mod library;
+mod reply;
 mod set;
 mod supply;
 mod tabled;
 mod tally;
 mod worked;
 
-use crate::tally::Tally;
+use crate::tally::{Family, Tally};
 use std::alloc::Global;
 use std::io;
 
 // How many cases there were, and how many of them differed.
-#[derive(Clone, Copy)]
+#[derive(Clone, Copy, Default)]
 struct Sum {
     cases: usize,
     differing: usize,
 }
 
 impl Sum {
-    fn add(self, rt: &HostRuntime, tally: Tally) -> io::Result<Sum> {
-        tally.print(rt)?;
-        Ok(Sum {
-            cases: self.cases.saturating_add(tally.cases()),
-            differing: self.differing.saturating_add(tally.differing()),
-        })
+    fn add(&mut self, rt: &HostRuntime, name: &str, tally: Tally) -> io::Result<()> {
+        println!(rt; "{name}: {tally}")?;
+        self.cases = self.cases.saturating_add(tally.cases());
+        self.differing = self.differing.saturating_add(tally.differing());
+        Ok(())
     }
 }
 
-fn compare_kinds(rt: &HostRuntime, heap: Global, sum: Sum) -> io::Result<Sum> {
-    let sum = sum.add(rt, coded::family(heap, 60_000))?;
-    let sum = sum.add(rt, set::scopes(heap, 60_000))?;
-    sum.add(rt, set::patterns(heap, 100_000))
+fn compare_kinds(rt: &HostRuntime, heap: Global, sum: &mut Sum) -> io::Result<()> {
+    let encoders = Family::new(heap, 1).compared(60_000, |family, _| coded::compare(family))?;
+    sum.add(rt, "encoders", encoders)?;
+    let scopes = Family::new(heap, 4).compared(60_000, |family, _| set::compare_scope(family))?;
+    sum.add(rt, "scopes", scopes)?;
+    let patterns = Family::new(heap, 3).compared(
+        100_000,
+        |family, _| set::compare_pattern(family),
+    )?;
+    sum.add(rt, "patterns", patterns)
 }
 
-fn compare_watches(rt: &HostRuntime, heap: Global, sum: Sum) -> io::Result<Sum> {
-    let sum = sum.add(rt, worked::examples(heap))?;
-    let sum = sum.add(rt, called::family(heap, 400_000))?;
-    sum.add(rt, full::family(heap))
+fn compare_watches(rt: &HostRuntime, heap: Global, sum: &mut Sum) -> io::Result<()> {
+    sum.add(rt, "worked examples, put to each", worked::examples(heap)?)?;
+    let runs = Family::new(heap, 2).compared(
+        400_000,
+        |family, case| called::compare_run(family, case % 9),
+    )?;
+    sum.add(rt, "runs", runs)?;
+    sum.add(rt, "full watches", full::watches(heap)?)
 }
 
-fn compare_tables(rt: &HostRuntime, heap: Global, sum: Sum) -> io::Result<Sum> {
-    let sum = sum.add(rt, tabled::checks(heap, 60_000))?;
-    let sum = sum.add(rt, tabled::compositions(heap, 30_000))?;
-    sum.add(rt, tabled::lines(heap, 30_000))
-}
-
-fn compare(rt: &HostRuntime, heap: Global) -> io::Result<()> {
-    let sum = Sum {
-        cases: 0,
-        differing: 0,
-    };
-    let sum = compare_kinds(rt, heap, sum)?;
-    let sum = compare_watches(rt, heap, sum)?;
-    let sum = compare_tables(rt, heap, sum)?;
-    let cases = sum.cases;
-    println!(rt; "in all: {cases} cases, {} different", sum.differing)
+fn compare_tables(rt: &HostRuntime, heap: Global, sum: &mut Sum) -> io::Result<()> {
+    let checks = Family::new(heap, 5).compared(60_000, |family, _| tabled::check_both(family))?;
+    sum.add(rt, "tables checked", checks)?;
+    let composed = Family::new(heap, 6).compared(30_000, |family, _| tabled::compose_both(family))?;
+    sum.add(rt, "tables composed", composed)?;
+    let lines = Family::new(heap, 7).compared(30_000, |family, _| tabled::judge_both(family))?;
+    sum.add(rt, "inputs judged", lines)
 }
 
 fn main(rt: HostRuntime) -> io::Result<()> {
-    compare(&rt, rt.alloc())
+    let heap = rt.alloc();
+    let mut sum = Sum::default();
+    compare_kinds(&rt, heap, &mut sum)?;
+    compare_watches(&rt, heap, &mut sum)?;
+    compare_tables(&rt, heap, &mut sum)?;
+    println!(rt; "in all: {} cases, {} different", sum.cases, sum.differing)
 }

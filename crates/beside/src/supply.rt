@@ -1,145 +1,220 @@
 // Texts of rules and tables, made by dice.
 use crate::dice::Dice;
-use second::pattern::{PatternText, Times};
+use second::pattern::{Form, PatternText, Times};
 use second::scope::ScopeText;
 use second::table::{TableKind, TableText};
-use std::alloc::Global;
+use second::text::Text;
+use std::alloc::AllocError;
+
+#[derive(Clone, Copy)]
+pub enum ScopeKind {
+    Globally,
+    Before,
+    After,
+    Between,
+    AfterUnless,
+    Table,
+}
+
+#[derive(Clone, Copy)]
+pub enum PatternKind {
+    Always,
+    Never,
+    Eventually,
+    Precisely,
+    Precedes,
+    Responds,
+    Table,
+}
+
+// What may be wrong with bytes.
+#[derive(Clone, Copy)]
+pub enum Damage {
+    // one byte too few
+    Short,
+    // one byte too many
+    Long,
+    // cut off somewhere
+    Cut,
+    // another byte somewhere
+    Other,
+}
 
 // The bytes that the texts of one case speak of.
 #[derive(Drop)]
 pub struct Supply {
-    pub first: Vec<u8>,
-    pub second: Vec<u8>,
-    pub pattern_table: Vec<u8>,
-    pub scope_table: Vec<u8>,
+    first: Vec<u8>,
+    second: Vec<u8>,
+    pattern_table: Vec<u8>,
+    scope_table: Vec<u8>,
 }
 
-fn chain(heap: Global, dice: &mut Dice) -> Vec<u8> {
-    let mut chain = Vec::new(heap);
+// A text that speaks of the bytes of its case.
+pub trait Drawn<'a>: Text {
+    type Kind: Copy;
+
+    // One of the kind, with settings that may be refused.
+    fn drawn(dice: &mut Dice, supply: &'a Supply, kind: Self::Kind) -> Self;
+}
+
+impl ScopeKind {
+    pub fn any(dice: &mut Dice) -> ScopeKind {
+        let choices = [
+            (1, ScopeKind::Globally),
+            (1, ScopeKind::Before),
+            (1, ScopeKind::After),
+            (2, ScopeKind::Between),
+            (1, ScopeKind::AfterUnless),
+        ];
+        dice.choose(8, &choices, ScopeKind::Table)
+    }
+}
+
+impl PatternKind {
+    pub fn any(dice: &mut Dice) -> PatternKind {
+        let choices = [
+            (1, PatternKind::Always),
+            (1, PatternKind::Never),
+            (1, PatternKind::Eventually),
+            (1, PatternKind::Precisely),
+            (2, PatternKind::Precedes),
+            (2, PatternKind::Responds),
+        ];
+        dice.choose(9, &choices, PatternKind::Table)
+    }
+}
+
+impl Damage {
+    pub fn any(dice: &mut Dice) -> Damage {
+        let choices = [(1, Damage::Short), (1, Damage::Long), (1, Damage::Cut)];
+        dice.choose(4, &choices, Damage::Other)
+    }
+
+    pub fn harm(self, dice: &mut Dice, bytes: &mut Vec<u8>) -> Result<(), AllocError> {
+        match self {
+            Damage::Short => {
+                let _ = bytes.pop();
+            }
+            Damage::Long => bytes.push(dice.byte())?,
+            Damage::Cut => bytes.truncate(dice.below(bytes.len())),
+            Damage::Other => {
+                let at = dice.below(bytes.len());
+                let byte = dice.byte();
+                if let Some(place) = bytes.get_mut(at) {
+                    *place = byte;
+                }
+            }
+        }
+        Ok(())
+    }
+}
+
+fn chain(dice: &mut Dice) -> Result<Vec<u8>, AllocError> {
     let length = if dice.one_in(15) {
         dice.below(6)
     } else {
         dice.below(4).saturating_add(1)
     };
-    for _ in 0..length {
-        let _ = chain.push(dice.condition());
-    }
-    chain
+    let heap = dice.heap;
+    (0..length).map(|_| dice.condition()).collect(heap)
 }
 
 // A lawful table with so many states and so many letters, a power of two.
-fn lawful_table(heap: Global, dice: &mut Dice, kind: TableKind, states: u8, width: u8) -> Vec<u8> {
-    let mut bytes = Vec::new(heap);
-    let _ = bytes.push(states);
-    for _ in 0..states {
-        let _ = bytes.push(dice.byte_below(2));
-    }
-    let _ = bytes.push(width);
+fn lawful_table(
+    dice: &mut Dice,
+    kind: TableKind,
+    states: u8,
+    width: u8,
+) -> Result<Vec<u8>, AllocError> {
+    let mut bytes = vec![in dice.heap; states]?;
+    bytes.extend((0..states).map(|_| dice.byte_below(2)))?;
+    bytes.push(width)?;
     let entries = usize::from(states).saturating_mul(1usize << (width % 8));
-    for _ in 0..entries {
+    bytes.extend((0..entries).map(|_| {
         let next = dice.byte_below(states);
-        let entry = match kind {
+        match kind {
             TableKind::Pattern => next,
             TableKind::Scope => next.saturating_add(dice.byte_below(4).saturating_mul(64)),
-        };
-        let _ = bytes.push(entry);
-    }
-    bytes
-}
-
-// Another byte somewhere, or bytes too few or too many.
-fn damage(dice: &mut Dice, bytes: &mut Vec<u8>) {
-    match dice.below(4) {
-        0 => {
-            let _ = bytes.pop();
         }
-        1 => {
-            let _ = bytes.push(dice.byte());
-        }
-        2 => bytes.truncate(dice.below(bytes.len())),
-        _ => {
-            let at = dice.below(bytes.len());
-            let byte = dice.byte();
-            if let Some(place) = bytes.get_mut(at) {
-                *place = byte;
-            }
-        }
-    }
+    }))?;
+    Ok(bytes)
 }
 
 // A table, now and then a damaged one.
-pub fn table(heap: Global, dice: &mut Dice, kind: TableKind, most: u8, width: u8) -> Vec<u8> {
+pub fn table(dice: &mut Dice, kind: TableKind, most: u8, width: u8) -> Result<Vec<u8>, AllocError> {
     let states = dice.byte_below(most).saturating_add(1);
-    let mut bytes = lawful_table(heap, dice, kind, states, width);
-    if dice.one_in(4) {
-        damage(dice, &mut bytes);
+    let mut bytes = lawful_table(dice, kind, states, width)?;
+    for seldom in [4, 40] {
+        if dice.one_in(seldom) {
+            Damage::any(dice).harm(dice, &mut bytes)?;
+        }
     }
-    if dice.one_in(40) {
-        damage(dice, &mut bytes);
-    }
-    bytes
+    Ok(bytes)
 }
 
 impl Supply {
-    pub fn new(heap: Global, dice: &mut Dice) -> Supply {
+    pub fn new(dice: &mut Dice) -> Result<Supply, AllocError> {
         let width = dice.byte_below(4);
-        Supply {
-            first: chain(heap, dice),
-            second: chain(heap, dice),
-            pattern_table: table(heap, dice, TableKind::Pattern, 4, width),
-            scope_table: table(heap, dice, TableKind::Scope, 4, width),
-        }
+        Ok(Supply {
+            first: chain(dice)?,
+            second: chain(dice)?,
+            pattern_table: table(dice, TableKind::Pattern, 4, width)?,
+            scope_table: table(dice, TableKind::Scope, 4, width)?,
+        })
     }
+}
 
-    // A scope by a number below 8, with settings that may be refused.
-    pub fn scope(&self, dice: &mut Dice, kind: usize) -> ScopeText<'_> {
+impl<'a> Drawn<'a> for ScopeText<'a> {
+    type Kind = ScopeKind;
+
+    fn drawn(dice: &mut Dice, supply: &'a Supply, kind: ScopeKind) -> ScopeText<'a> {
         let q = dice.condition();
         let r = dice.condition();
         match kind {
-            0 => ScopeText::Globally,
-            1 => ScopeText::Before(r),
-            2 => ScopeText::After(q),
-            3 | 4 => ScopeText::Between(q, r),
-            5 => ScopeText::AfterUnless(q, r),
-            _ => ScopeText::Table(TableText {
+            ScopeKind::Globally => ScopeText::Globally,
+            ScopeKind::Before => ScopeText::Before(r),
+            ScopeKind::After => ScopeText::After(q),
+            ScopeKind::Between => ScopeText::Between(q, r),
+            ScopeKind::AfterUnless => ScopeText::AfterUnless(q, r),
+            ScopeKind::Table => ScopeText::Table(TableText {
                 kind: TableKind::Scope,
-                bytes: &self.scope_table,
+                bytes: &supply.scope_table,
             }),
         }
     }
+}
 
-    // A pattern by a number below 9, with settings that may be refused.
-    pub fn pattern(&self, dice: &mut Dice, kind: usize) -> PatternText<'_> {
+impl<'a> Drawn<'a> for PatternText<'a> {
+    type Kind = PatternKind;
+
+    fn drawn(dice: &mut Dice, supply: &'a Supply, kind: PatternKind) -> PatternText<'a> {
         let c = dice.condition();
         let (first, second) = if dice.one_in(2) {
-            (&self.first, &self.second)
+            (&supply.first, &supply.second)
         } else {
-            (&self.second, &self.first)
+            (&supply.second, &supply.first)
         };
         match kind {
-            0 => PatternText::Always(c),
-            1 => PatternText::Never(c),
-            2 => PatternText::Eventually(times(dice), c),
-            3 => PatternText::Precisely(times(dice), c),
-            4 | 5 => PatternText::Precedes(first, second),
-            6 | 7 => PatternText::Responds(first, second),
-            _ => PatternText::Table(TableText {
+            PatternKind::Always => PatternText::Always(c),
+            PatternKind::Never => PatternText::Never(c),
+            PatternKind::Eventually => PatternText::Eventually(times(dice), c),
+            PatternKind::Precisely => PatternText::Precisely(times(dice), c),
+            PatternKind::Precedes => PatternText::Precedes(first, second),
+            PatternKind::Responds => PatternText::Responds(first, second),
+            PatternKind::Table => PatternText::Table(TableText {
                 kind: TableKind::Pattern,
-                bytes: &self.pattern_table,
+                bytes: &supply.pattern_table,
             }),
         }
     }
 }
 
 fn times(dice: &mut Dice) -> Times {
-    let t = if dice.one_in(20) {
+    let number = if dice.one_in(20) {
         65_535
     } else {
         u16::from(dice.byte_below(4))
     };
-    match dice.below(3) {
-        0 => Times::Exactly(t),
-        1 => Times::AtLeast(t),
-        _ => Times::AtMost(t),
-    }
+    let form = dice.choose(3, &[(1, Form::Exactly), (1, Form::AtLeast)], Form::AtMost);
+    Times { form, number }
 }

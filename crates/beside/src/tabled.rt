@@ -1,232 +1,40 @@
 // Tables: checking them, composing them into buffers of all lengths, and judging whole inputs.
 use crate::dice::Dice;
+use crate::reply::{Replies, Reply};
 use crate::supply::table;
-use crate::tally::Tally;
+use crate::tally::Family;
 use composing::compose::compose;
 use judging::line::judge_line;
-use second::line::judged;
-use second::replies::{Refusal, Reply, number_reply};
-use second::table::{Composing, Pair, TableKind, TableText};
-use std::alloc::Global;
+use second::line::{Room, judged};
+use second::table::{Pair, TableKind, TableText};
+use std::alloc::{AllocError, Global};
 use table_format::check::check;
 use table_format::kind::Kind;
 
-fn length_reply(length: usize) -> Reply {
-    Reply::Accepted(u32::try_from(length).unwrap_or(u32::MAX))
+// Two tables of one case.
+#[derive(Debug, Drop)]
+struct Tables {
+    pattern: Vec<u8>,
+    scope: Vec<u8>,
 }
 
-fn check_ours(kind: TableKind, bytes: &[u8]) -> Reply {
-    let kind = match kind {
-        TableKind::Pattern => Kind::Pattern,
-        TableKind::Scope => Kind::Scope,
-    };
-    match check(kind, bytes) {
-        Ok(()) => Reply::Begun,
-        Err(fault) => Reply::Refused(Refusal {
-            number: fault.number(),
-            place: fault.place(),
-            count: None,
-        }),
-    }
+// How a buffer's length stands to what is needed.
+#[derive(Clone, Copy)]
+enum Length {
+    Exact,
+    OneLess,
+    Less,
+    More,
 }
 
-fn check_theirs(kind: TableKind, bytes: &[u8]) -> Reply {
-    match (TableText { kind, bytes }).wrong() {
-        None => Reply::Begun,
-        Some(refusal) => Reply::Refused(refusal),
-    }
-}
-
-// A pattern table and a scope table, mostly lawful and mostly of one width; now and then as large as there are.
-fn tables(heap: Global, dice: &mut Dice) -> (Vec<u8>, Vec<u8>) {
-    let large = dice.one_in(400);
-    let width = if large { 6 } else { dice.byte_below(4) };
-    let most = if large { 250 } else { 36 };
-    let pattern = table(heap, dice, TableKind::Pattern, most, width);
-    let other = if dice.one_in(12) {
-        dice.byte_below(4)
-    } else {
-        width
-    };
-    let scope = table(heap, dice, TableKind::Scope, 8, other);
-    (pattern, scope)
-}
-
-// What every byte of a buffer is before it is written to.
-const OLD: u8 = 0xa5;
-
-fn room(heap: Global, length: usize) -> Vec<u8> {
-    written(heap, &[], length)
-}
-
-// A buffer of so many bytes with the written ones in front.
-fn written(heap: Global, front: &[u8], length: usize) -> Vec<u8> {
-    let mut bytes = Vec::new(heap);
-    for byte in front {
-        let _ = bytes.push(*byte);
-    }
-    for _ in front.len()..length {
-        let _ = bytes.push(OLD);
-    }
-    bytes
-}
-
-// Nothing where the bytes are as they should be, and else the first place where they are not.
-fn bytes_reply(bytes: &[u8], expected: &[u8]) -> Reply {
-    if bytes.len() != expected.len() {
-        return length_reply(bytes.len());
-    }
-    for (at, (byte, wanted)) in bytes.iter().zip(expected.iter()).enumerate() {
-        if *byte != *wanted {
-            return length_reply(at);
-        }
-    }
-    Reply::Begun
-}
-
-fn check_both(heap: Global, dice: &mut Dice, tally: &mut Tally) {
-    let (pattern, scope) = tables(heap, dice);
-    let swapped = dice.one_in(10);
-    let (p, s) = if swapped {
-        (TableKind::Scope, TableKind::Pattern)
-    } else {
-        (TableKind::Pattern, TableKind::Scope)
-    };
-    let ours = [check_ours(p, &pattern), check_ours(s, &scope)];
-    let theirs = [check_theirs(p, &pattern), check_theirs(s, &scope)];
-    let size = pattern.len().saturating_add(scope.len());
-    if tally.agree(&ours, &theirs) || !tally.is_smaller(size) {
-        return;
-    }
-    let case = format!(in heap; "kinds swapped {swapped}, checked {pattern:?} and {scope:?}");
-    tally.keep(heap, size, case, &ours, &theirs);
-}
-
-pub fn checks(heap: Global, cases: usize) -> Tally {
-    let mut tally = Tally::new("tables checked");
-    let mut dice = Dice::new(5);
-    for _ in 0..cases {
-        check_both(heap, &mut dice, &mut tally);
-    }
-    tally
-}
-
-// A length for a buffer that should hold so many bytes: enough, exactly enough, one too few, or none.
-fn length_for(dice: &mut Dice, needed: usize) -> usize {
-    match dice.below(8) {
-        0 => needed,
-        1 => needed.saturating_sub(1),
-        2 => dice.below(needed),
-        _ => needed.saturating_add(dice.below(9)),
-    }
-}
-
-fn composed_length<'a>(pattern: &'a [u8], scope: &'a [u8]) -> usize {
-    let pair = Pair::of(pattern, scope);
-    let states = pair.composed_states() % 251;
-    let width = pair.pattern.width() % 7;
-    (states << width) + states + 2
-}
-
-// A reply, and what the buffer holds then.
+// What a call replies, and what its buffer holds then.
 #[derive(Drop)]
 struct Composed {
     reply: Reply,
     out: Vec<u8>,
 }
 
-fn composed_ours(heap: Global, pattern: &[u8], scope: &[u8], length: usize) -> Composed {
-    let mut out = room(heap, length);
-    let reply = match compose(pattern, scope, &mut out) {
-        Ok(length) => length_reply(length),
-        Err(fault) => number_reply(Some(fault.number())),
-    };
-    Composed { reply, out }
-}
-
-fn composed_theirs(heap: Global, pair: Pair<'_>, length: usize) -> Composed {
-    match pair.composed(heap, length) {
-        Composing::Refused(number) => Composed {
-            reply: number_reply(Some(number)),
-            out: room(heap, length),
-        },
-        Composing::Table(table) => Composed {
-            reply: length_reply(table.len()),
-            out: written(heap, &table, length),
-        },
-    }
-}
-
-fn compose_both(heap: Global, dice: &mut Dice, tally: &mut Tally) {
-    let (pattern, scope) = tables(heap, dice);
-    let length = length_for(dice, composed_length(&pattern, &scope));
-    let composed = composed_ours(heap, &pattern, &scope, length);
-    let expected = composed_theirs(heap, Pair::of(&pattern, &scope), length);
-    let ours = [composed.reply, bytes_reply(&composed.out, &expected.out)];
-    let theirs = [expected.reply, Reply::Begun];
-    let size = pattern.len().saturating_add(scope.len());
-    if tally.agree(&ours, &theirs) || !tally.is_smaller(size) {
-        return;
-    }
-    let case = format!(in heap; "{pattern:?} with {scope:?} in {length}");
-    tally.keep(heap, size, case, &ours, &theirs);
-}
-
-pub fn compositions(heap: Global, cases: usize) -> Tally {
-    let mut tally = Tally::new("tables composed");
-    let mut dice = Dice::new(6);
-    for _ in 0..cases {
-        compose_both(heap, &mut dice, &mut tally);
-    }
-    tally
-}
-
-// Appends bytes behind their length, which is wrong now and then.
-fn push_measured(dice: &mut Dice, bytes: &[u8], input: &mut Vec<u8>) {
-    let wrong = dice.one_in(40);
-    let length = if wrong {
-        dice.below(70_000)
-    } else {
-        bytes.len()
-    };
-    let _ = input.push(0);
-    let _ = input.push((length / 65_536 % 256) as u8);
-    let _ = input.push((length / 256 % 256) as u8);
-    let _ = input.push((length % 256) as u8);
-    for byte in bytes {
-        let _ = input.push(*byte);
-    }
-}
-
-// An input of two tables and a record of letters; now and then it is cut, or too long.
-fn input(heap: Global, dice: &mut Dice, pattern: &[u8], scope: &[u8]) -> Vec<u8> {
-    let mut input = Vec::new(heap);
-    push_measured(dice, pattern, &mut input);
-    push_measured(dice, scope, &mut input);
-    let count = dice.byte_below(9);
-    let wrong = dice.one_in(15);
-    let most = if dice.one_in(8) { 9 } else { 2 };
-    for byte in [0, 0, 0, if wrong { dice.byte_below(9) } else { count }] {
-        let _ = input.push(byte);
-    }
-    for _ in 0..count {
-        let _ = input.push(dice.byte_below(most));
-    }
-    if dice.one_in(25) {
-        input.truncate(dice.below(input.len()));
-    }
-    if dice.one_in(2_000) {
-        let extra = 59_999usize
-            .saturating_sub(input.len())
-            .saturating_add(dice.below(4));
-        for _ in 0..extra {
-            let _ = input.push(0);
-        }
-    }
-    input
-}
-
-// A reply, and what the line and the scratch hold then.
+// What a call replies, and what the line and the scratch hold then.
 #[derive(Drop)]
 struct Lined {
     reply: Reply,
@@ -234,72 +42,223 @@ struct Lined {
     scratch: Vec<u8>,
 }
 
-// The lengths of the two buffers of the judging call.
-#[derive(Clone, Copy)]
-struct Lengths {
-    line: usize,
-    scratch: usize,
-}
+impl Tables {
+    // A pattern table and a scope table, mostly lawful and mostly of one width; now and then as large as there are.
+    fn any(dice: &mut Dice) -> Result<Tables, AllocError> {
+        let large = dice.one_in(400);
+        let width = if large { 6 } else { dice.byte_below(4) };
+        let most = if large { 250 } else { 36 };
+        let pattern = table(dice, TableKind::Pattern, most, width)?;
+        let other = if dice.one_in(12) {
+            dice.byte_below(4)
+        } else {
+            width
+        };
+        let scope = table(dice, TableKind::Scope, 8, other)?;
+        Ok(Tables { pattern, scope })
+    }
 
-fn lined_ours(heap: Global, input: &[u8], lengths: Lengths) -> Lined {
-    let mut line = room(heap, lengths.line);
-    let mut scratch = room(heap, lengths.scratch);
-    let reply = match judge_line(input, &mut scratch, &mut line) {
-        Ok(length) => length_reply(length),
-        Err(fault) => number_reply(Some(fault.number())),
-    };
-    Lined {
-        reply,
-        line,
-        scratch,
+    fn pair(&self) -> Pair<'_> {
+        Pair::of(&self.pattern, &self.scope)
+    }
+
+    fn size(&self) -> usize {
+        self.pattern.len().saturating_add(self.scope.len())
+    }
+
+    // How long a composed table is, where the tables compose.
+    fn composed_length(&self) -> usize {
+        let pair = self.pair();
+        let states = pair.composed_states() % 251;
+        let width = pair.pattern.width() % 7;
+        (states << width) + states + 2
     }
 }
 
-fn lined_theirs(heap: Global, input: &[u8], lengths: Lengths) -> Lined {
-    let left = judged(heap, input, lengths.scratch, lengths.line);
-    let scratch = written(heap, &left.scratch, lengths.scratch);
-    match &left.text {
-        None => Lined {
-            reply: number_reply(Some(16)),
-            line: room(heap, lengths.line),
-            scratch,
-        },
-        Some(text) => Lined {
-            reply: length_reply(text.len()),
-            line: written(heap, text, lengths.line),
-            scratch,
-        },
+impl Length {
+    // A length for a buffer that should hold so many bytes.
+    fn any(dice: &mut Dice, needed: usize) -> usize {
+        let choices = [(1, Length::Exact), (1, Length::OneLess), (1, Length::Less)];
+        match dice.choose(8, &choices, Length::More) {
+            Length::Exact => needed,
+            Length::OneLess => needed.saturating_sub(1),
+            Length::Less => dice.below(needed),
+            Length::More => needed.saturating_add(dice.below(9)),
+        }
+    }
+}
+
+fn check_ours(kind: TableKind, bytes: &[u8]) -> Reply {
+    let kind = match kind {
+        TableKind::Pattern => Kind::Pattern,
+        TableKind::Scope => Kind::Scope,
+    };
+    Reply::of(check(kind, bytes).map(|()| Reply::Done))
+}
+
+fn check_theirs(kind: TableKind, bytes: &[u8]) -> Reply {
+    Reply::of((TableText { kind, bytes }).check().map(|()| Reply::Done))
+}
+
+// What every byte of a buffer is before it is written to.
+const OLD: u8 = 0xa5;
+
+// A buffer of so many bytes with the written ones in front.
+fn written(heap: Global, front: &[u8], length: usize) -> Result<Vec<u8>, AllocError> {
+    let mut bytes = Vec::from_slice(heap, front)?;
+    bytes.resize(length.max(front.len()), OLD)?;
+    Ok(bytes)
+}
+
+// Nothing where the bytes are as they should be, and else the first place where they are not.
+fn bytes_reply(bytes: &[u8], expected: &[u8]) -> Reply {
+    if bytes.len() != expected.len() {
+        return Reply::Accepted(bytes.len());
+    }
+    let differs = bytes
+        .iter()
+        .zip(expected)
+        .position(|(byte, wanted)| byte != wanted);
+    differs.map_or(Reply::Done, Reply::Accepted)
+}
+
+pub fn check_both(family: &mut Family) -> Result<(), AllocError> {
+    let tables = Tables::any(&mut family.dice)?;
+    let swapped = family.dice.one_in(10);
+    let (p, s) = if swapped {
+        (TableKind::Scope, TableKind::Pattern)
+    } else {
+        (TableKind::Pattern, TableKind::Scope)
+    };
+    let ours = [check_ours(p, &tables.pattern), check_ours(s, &tables.scope)];
+    let theirs = [
+        check_theirs(p, &tables.pattern),
+        check_theirs(s, &tables.scope),
+    ];
+    let both = Replies {
+        ours: &ours,
+        theirs: &theirs,
+    };
+    let case = format_args!("kinds swapped {swapped}, checked {tables:?}");
+    family.tally.hold(tables.size(), both, case)
+}
+
+fn composed_ours(heap: Global, tables: &Tables, length: usize) -> Result<Composed, AllocError> {
+    let mut out = written(heap, &[], length)?;
+    let composed = compose(&tables.pattern, &tables.scope, &mut out);
+    let reply = Reply::of(composed.map(Reply::Accepted));
+    Ok(Composed { reply, out })
+}
+
+fn composed_theirs(heap: Global, pair: Pair<'_>, length: usize) -> Result<Composed, AllocError> {
+    match pair.composed(heap, length) {
+        Ok(table) => Ok(Composed {
+            reply: Reply::Accepted(table.len()),
+            out: written(heap, &table, length)?,
+        }),
+        Err(stop) => Ok(Composed {
+            reply: Reply::heard(Err(stop))?,
+            out: written(heap, &[], length)?,
+        }),
+    }
+}
+
+pub fn compose_both(family: &mut Family) -> Result<(), AllocError> {
+    let heap = family.dice.heap;
+    let tables = Tables::any(&mut family.dice)?;
+    let length = Length::any(&mut family.dice, tables.composed_length());
+    let composed = composed_ours(heap, &tables, length)?;
+    let expected = composed_theirs(heap, tables.pair(), length)?;
+    let ours = [composed.reply, bytes_reply(&composed.out, &expected.out)];
+    let theirs = [expected.reply, Reply::Done];
+    let both = Replies {
+        ours: &ours,
+        theirs: &theirs,
+    };
+    let case = format_args!("{tables:?} in {length}");
+    family.tally.hold(tables.size(), both, case)
+}
+
+// Appends bytes behind their length, which is wrong now and then.
+fn push_measured(dice: &mut Dice, bytes: &[u8], input: &mut Vec<u8>) -> Result<(), AllocError> {
+    let wrong = dice.one_in(40);
+    let length = if wrong {
+        dice.below(70_000)
+    } else {
+        bytes.len()
+    };
+    let length = u32::try_from(length).unwrap_or(u32::MAX);
+    input.extend_from_slice(&length.to_be_bytes())?;
+    input.extend_from_slice(bytes)
+}
+
+// An input of two tables and a record of letters; now and then it is cut, or too long.
+fn input(dice: &mut Dice, tables: &Tables) -> Result<Vec<u8>, AllocError> {
+    let mut input = Vec::new(dice.heap);
+    push_measured(dice, &tables.pattern, &mut input)?;
+    push_measured(dice, &tables.scope, &mut input)?;
+    let count = dice.byte_below(9);
+    let wrong = dice.one_in(15);
+    let most = if dice.one_in(8) { 9 } else { 2 };
+    let said = if wrong { dice.byte_below(9) } else { count };
+    input.extend_from_slice(&[0, 0, 0, said])?;
+    input.extend((0..count).map(|_| dice.byte_below(most)))?;
+    if dice.one_in(25) {
+        input.truncate(dice.below(input.len()));
+    }
+    if dice.one_in(2_000) {
+        let length = input.len().max(59_999).saturating_add(dice.below(4));
+        input.resize(length, 0)?;
+    }
+    Ok(input)
+}
+
+fn lined_ours(heap: Global, input: &[u8], room: Room) -> Result<Lined, AllocError> {
+    let mut line = written(heap, &[], room.line)?;
+    let mut scratch = written(heap, &[], room.scratch)?;
+    let judged = judge_line(input, &mut scratch, &mut line);
+    Ok(Lined {
+        reply: Reply::of(judged.map(Reply::Accepted)),
+        line,
+        scratch,
+    })
+}
+
+fn lined_theirs(heap: Global, input: &[u8], room: Room) -> Result<Lined, AllocError> {
+    match judged(heap, input, room) {
+        Ok(left) => Ok(Lined {
+            reply: Reply::Accepted(left.text.len()),
+            line: written(heap, left.text.as_bytes(), room.line)?,
+            scratch: written(heap, &left.scratch, room.scratch)?,
+        }),
+        Err(stop) => Ok(Lined {
+            reply: Reply::heard(Err(stop))?,
+            line: written(heap, &[], room.line)?,
+            scratch: written(heap, &[], room.scratch)?,
+        }),
     }
 }
 
 // Puts an input to both.
-fn judge_input(heap: Global, input: &[u8], lengths: Lengths, tally: &mut Tally) {
-    let lined = lined_ours(heap, input, lengths);
-    let expected = lined_theirs(heap, input, lengths);
-    let line = bytes_reply(&lined.line, &expected.line);
-    let scratch = bytes_reply(&lined.scratch, &expected.scratch);
-    let ours = [lined.reply, line, scratch];
-    let theirs = [expected.reply, Reply::Begun, Reply::Begun];
-    if tally.agree(&ours, &theirs) || !tally.is_smaller(input.len()) {
-        return;
-    }
-    let case = format!(in heap; "{input:?} wrote {:?}", lined.line);
-    tally.keep(heap, input.len(), case, &ours, &theirs);
-}
-
-fn judge_both(heap: Global, dice: &mut Dice, tally: &mut Tally) {
-    let (pattern, scope) = tables(heap, dice);
-    let input = input(heap, dice, &pattern, &scope);
-    let scratch = length_for(dice, composed_length(&pattern, &scope));
-    let line = dice.below(6).saturating_add(10);
-    judge_input(heap, &input, Lengths { line, scratch }, tally);
-}
-
-pub fn lines(heap: Global, cases: usize) -> Tally {
-    let mut tally = Tally::new("inputs judged");
-    let mut dice = Dice::new(7);
-    for _ in 0..cases {
-        judge_both(heap, &mut dice, &mut tally);
-    }
-    tally
+pub fn judge_both(family: &mut Family) -> Result<(), AllocError> {
+    let heap = family.dice.heap;
+    let tables = Tables::any(&mut family.dice)?;
+    let input = input(&mut family.dice, &tables)?;
+    let scratch = Length::any(&mut family.dice, tables.composed_length());
+    let line = family.dice.below(6).saturating_add(10);
+    let room = Room { line, scratch };
+    let lined = lined_ours(heap, &input, room)?;
+    let expected = lined_theirs(heap, &input, room)?;
+    let ours = [
+        lined.reply,
+        bytes_reply(&lined.line, &expected.line),
+        bytes_reply(&lined.scratch, &expected.scratch),
+    ];
+    let theirs = [expected.reply, Reply::Done, Reply::Done];
+    let both = Replies {
+        ours: &ours,
+        theirs: &theirs,
+    };
+    let case = format_args!("{input:?} wrote {:?}", lined.line);
+    family.tally.hold(input.len(), both, case)
 }

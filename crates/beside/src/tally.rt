@@ -1,120 +1,138 @@
-use second::replies::Reply;
+use crate::dice::Dice;
+use crate::reply::{Replies, Reply};
 use std::alloc::{AllocError, Global};
-use std::io;
+use std::fmt;
 
-// What came out in a family of cases: how many there were, how many replies were compared, and the smallest case in
-// which the two implementations differ, if they do anywhere.
-#[derive(Drop)]
-pub struct Tally {
-    name: &'static str,
+#[derive(Clone, Copy, Default)]
+struct Counts {
     cases: usize,
     replies: usize,
     refused: usize,
     yes: usize,
     no: usize,
     differing: usize,
+}
+
+// What came out in a family of cases: how many there were, how many replies were compared, and the smallest case in
+// which the two implementations differ, if they do anywhere.
+#[derive(Drop)]
+pub struct Tally {
+    heap: Global,
+    counts: Counts,
     smallest: Option<Difference>,
 }
 
-// A case in which the two differ: its size, all of it in words, and the replies of both.
+// A case in which the two differ: its size, and all of it in words.
 #[derive(Drop)]
 struct Difference {
     size: usize,
-    case: String,
-    replies: String,
+    text: String,
+}
+
+// A family of cases that is put to both.
+#[derive(Drop)]
+pub struct Family {
+    pub dice: Dice,
+    pub tally: Tally,
+}
+
+fn raise(count: &mut usize) {
+    *count = count.saturating_add(1);
+}
+
+impl Counts {
+    fn add(&mut self, reply: Reply) {
+        raise(&mut self.replies);
+        match reply {
+            Reply::Refused(_) => raise(&mut self.refused),
+            Reply::Judged(true) => raise(&mut self.yes),
+            Reply::Judged(false) => raise(&mut self.no),
+            _ => {}
+        }
+    }
 }
 
 impl Tally {
-    pub fn new(name: &'static str) -> Tally {
+    pub fn new(heap: Global) -> Tally {
         Tally {
-            name,
-            cases: 0,
-            replies: 0,
-            refused: 0,
-            yes: 0,
-            no: 0,
-            differing: 0,
+            heap,
+            counts: Counts::default(),
             smallest: None,
         }
     }
 
-    // One case more: whether the library's replies are the second implementation's.
-    pub fn agree(&mut self, ours: &[Reply], theirs: &[Reply]) -> bool {
-        self.cases = self.cases.saturating_add(1);
-        let mut same = ours.len() == theirs.len();
-        for (at, reply) in theirs.iter().enumerate() {
-            self.count(*reply);
-            same = same && stands(ours, at, *reply);
+    // One case more, with all replies. The smallest one in which the two differ is kept in words.
+    pub fn hold<C: fmt::Display + Drop>(
+        &mut self,
+        size: usize,
+        replies: Replies<'_>,
+        case: C,
+    ) -> Result<(), AllocError> {
+        raise(&mut self.counts.cases);
+        for reply in replies.theirs {
+            self.counts.add(*reply);
         }
-        if !same {
-            self.differing = self.differing.saturating_add(1);
+        if replies.ours == replies.theirs {
+            return Ok(());
         }
-        same
-    }
-
-    fn count(&mut self, reply: Reply) {
-        self.replies = self.replies.saturating_add(1);
-        match reply {
-            Reply::Refused(_) => self.refused = self.refused.saturating_add(1),
-            Reply::Judged(true) => self.yes = self.yes.saturating_add(1),
-            Reply::Judged(false) => self.no = self.no.saturating_add(1),
-            _ => {}
+        raise(&mut self.counts.differing);
+        if self.is_smallest(size) {
+            let text = format!(in self.heap; "{case}: {replies}")?;
+            self.smallest = Some(Difference { size, text });
         }
+        Ok(())
     }
 
     // Whether a case of this size would be the smallest in which the two differ.
-    pub fn is_smaller(&self, size: usize) -> bool {
+    fn is_smallest(&self, size: usize) -> bool {
         match &self.smallest {
             Some(known) => size < known.size,
             None => true,
         }
     }
 
-    // Takes a case in which the two differ for the smallest so far: the case in words, and all replies.
-    pub fn keep(
-        &mut self,
-        heap: Global,
-        size: usize,
-        case: Result<String, AllocError>,
-        ours: &[Reply],
-        theirs: &[Reply],
-    ) {
-        if let (Ok(case), Ok(replies)) = (case, format!(in heap; "{ours:?}, not {theirs:?}")) {
-            self.smallest = Some(Difference {
-                size,
-                case,
-                replies,
-            });
-        }
-    }
-
     pub fn cases(&self) -> usize {
-        self.cases
+        self.counts.cases
     }
 
     pub fn differing(&self) -> usize {
-        self.differing
-    }
-
-    pub fn print(&self, rt: &HostRuntime) -> io::Result<()> {
-        print!(rt; "{}: {} cases, ", self.name, self.cases)?;
-        print!(rt; "{} replies: {} refusals, ", self.replies, self.refused)?;
-        print!(rt; "{} yes, {} no; ", self.yes, self.no)?;
-        println!(rt; "{} cases different", self.differing)?;
-        if let Some(found) = &self.smallest {
-            println!(rt;
-                "  the smallest: {}: {}",
-                found.case.as_str(),
-                found.replies.as_str()
-            )?;
-        }
-        Ok(())
+        self.counts.differing
     }
 }
 
-fn stands(replies: &[Reply], at: usize, reply: Reply) -> bool {
-    match replies.get(at) {
-        Some(there) => *there == reply,
-        None => false,
+impl fmt::Display for Tally {
+    fn fmt<W: fmt::Write>(&self, f: &mut fmt::Formatter<W>) -> fmt::Result {
+        let counts = self.counts;
+        write!(f, "{} cases, {} replies: ", counts.cases, counts.replies)?;
+        write!(f, "{} refusals, ", counts.refused)?;
+        write!(f, "{} yes, {} no; ", counts.yes, counts.no)?;
+        write!(f, "{} cases different", counts.differing)?;
+        match &self.smallest {
+            Some(found) => write!(f, "\n  the smallest: {}", found.text.as_str()),
+            None => Ok(()),
+        }
+    }
+}
+
+impl Family {
+    pub fn new(heap: Global, seed: u64) -> Family {
+        Family {
+            dice: Dice::new(heap, seed),
+            tally: Tally::new(heap),
+        }
+    }
+
+    // What comes out where so many cases are compared, each by its number.
+    pub fn compared<F: FnMut(&mut Family, usize) -> Result<(), AllocError>>(
+        mut self,
+        cases: usize,
+        mut compare: F,
+    ) -> Result<Tally, AllocError>
+        requires { F.IsAlwaysCallable compare }
+    {
+        for case in 0..cases {
+            compare(&mut self, case)?;
+        }
+        Ok(self.tally)
     }
 }

@@ -1,11 +1,11 @@
 // Worked examples with their known outcomes, put to both.
 use crate::called::{Rule, Step, Story};
+use crate::reply::{Replies, Reply};
 use crate::tally::Tally;
 use second::coding::{CodingKind, Setting};
-use second::pattern::{PatternText, Times};
-use second::replies::Reply;
+use second::pattern::{Form, PatternText, Times};
 use second::scope::ScopeText;
-use std::alloc::Global;
+use std::alloc::{AllocError, Global};
 
 // D, the dryer is driven
 const D: u8 = 0;
@@ -13,6 +13,16 @@ const D: u8 = 0;
 const B: u8 = 1;
 // T, the tail is threaded
 const T: u8 = 2;
+
+const AT_LEAST_ONE: Times = Times {
+    form: Form::AtLeast,
+    number: 1,
+};
+
+const AT_MOST_TWO: Times = Times {
+    form: Form::AtMost,
+    number: 2,
+};
 
 // A rule, a record of words, and whether the record keeps the rule.
 struct Example {
@@ -27,21 +37,21 @@ static EXAMPLES: [Example; 8] = [
     Example {
         outer: ScopeText::Before(T),
         inner: None,
-        pattern: PatternText::Eventually(Times::AtLeast(1), D),
+        pattern: PatternText::Eventually(AT_LEAST_ONE, D),
         words: &[0, 0],
         kept: true,
     },
     Example {
         outer: ScopeText::Globally,
         inner: None,
-        pattern: PatternText::Eventually(Times::AtMost(2), D),
+        pattern: PatternText::Eventually(AT_MOST_TWO, D),
         words: &[1, 1, 0, 1],
         kept: true,
     },
     Example {
         outer: ScopeText::Globally,
         inner: None,
-        pattern: PatternText::Precisely(Times::AtMost(2), D),
+        pattern: PatternText::Precisely(AT_MOST_TWO, D),
         words: &[1, 1, 0, 1],
         kept: false,
     },
@@ -83,59 +93,44 @@ static EXAMPLES: [Example; 8] = [
 ];
 
 // A letter record of these words, played.
-fn story(heap: Global, words: &[u8]) -> Story {
-    let mut pool = Vec::new(heap);
-    for byte in [0, 0, 0, (words.len() & 0xff) as u8] {
-        let _ = pool.push(byte);
-    }
-    for word in words {
-        let _ = pool.push(*word);
-    }
-    let mut settings = Vec::new(heap);
-    let _ = settings.push(Setting::Width(3));
-    let mut steps = Vec::new(heap);
-    let _ = steps.push(Step::Play(0, pool.len()));
-    let _ = steps.push(Step::Verdict);
-    Story {
+fn story(heap: Global, words: &[u8]) -> Result<Story, AllocError> {
+    let count = u32::try_from(words.len()).unwrap_or(u32::MAX);
+    let mut record = Vec::from_slice(heap, &count.to_be_bytes())?;
+    record.extend_from_slice(words)?;
+    Ok(Story {
         kind: CodingKind::Letters,
-        settings,
-        pool,
-        steps,
-    }
+        settings: vec![in heap; Setting::Width(3)]?,
+        steps: vec![in heap; Step::Play(record), Step::Verdict]?,
+    })
 }
 
-fn compare(heap: Global, example: &Example, tally: &mut Tally) {
-    let story = story(heap, example.words);
+// Holds the replies of each side to what is known.
+fn compare(heap: Global, example: &Example, tally: &mut Tally) -> Result<(), AllocError> {
+    let story = story(heap, example.words)?;
     let rule = Rule {
         outer: example.outer,
         middle: None,
         inner: example.inner,
         pattern: example.pattern,
     };
-    let count = u32::try_from(example.words.len()).unwrap_or(0);
-    let known = [Reply::Accepted(count), Reply::Judged(example.kept)];
-    hold(heap, &story.ours(heap, rule), &known, tally);
-    hold(heap, &story.theirs(heap, rule), &known, tally);
-}
-
-// Holds replies to what is known.
-fn hold(heap: Global, replies: &[Reply], known: &[Reply], tally: &mut Tally) {
-    if tally.agree(replies, known) {
-        return;
+    let known = [
+        Reply::Accepted(example.words.len()),
+        Reply::Judged(example.kept),
+    ];
+    for replies in [story.ours(heap, rule)?, story.theirs(heap, rule)?] {
+        let both = Replies {
+            ours: &replies,
+            theirs: &known,
+        };
+        tally.hold(0, both, "a worked example")?;
     }
-    tally.keep(
-        heap,
-        0,
-        format!(in heap; "a worked example"),
-        replies,
-        known,
-    );
+    Ok(())
 }
 
-pub fn examples(heap: Global) -> Tally {
-    let mut tally = Tally::new("worked examples, put to each");
+pub fn examples(heap: Global) -> Result<Tally, AllocError> {
+    let mut tally = Tally::new(heap);
     for example in EXAMPLES.iter() {
-        compare(heap, example, &mut tally);
+        compare(heap, example, &mut tally)?;
     }
-    tally
+    Ok(tally)
 }
