@@ -106,7 +106,14 @@ impl From<TableFault> for Refusal {
 
 impl From<ComposeFault> for Refusal {
     fn from(fault: ComposeFault) -> Refusal {
-        Refusal::new(fault.number())
+        let place = match fault {
+            ComposeFault::Pattern(table) | ComposeFault::Scope(table) => table.place(),
+            ComposeFault::Widths | ComposeFault::States | ComposeFault::Room => None,
+        };
+        Refusal {
+            place,
+            ..Refusal::new(fault.number())
+        }
     }
 }
 
