@@ -9,6 +9,7 @@ use rules::few::Few;
 use rules::refusal::SettingRefusal;
 
 // One to four conditions that are to hold in turn, each at a later place than the one before it.
+// Clauses name the conditions' numbers by `chain_of`: a `Model` would be a second name for them.
 #[derive(Clone, Copy)]
 pub struct Chain {
     conditions: Few<Condition, 4>,
@@ -27,7 +28,8 @@ impl Chain {
         }
     }
 
-    // The chain of these conditions, where there are one to four and each is the number of one.
+    // The chain of these conditions, where there are one to four and each is the number of one. Setters take numbers,
+    // so that only this refuses them; a `TryFrom` would but repeat it.
     pub fn new(numbers: &[u8]) -> Result<Chain, SettingRefusal>
         ensures { MatchResult result (λ c. (fair numbers.now ≡ true) × (chain_of c ≡ numbers.now)) (λ e. (fair numbers.now ≡ false) × (e ≡ Range)) }
     {

@@ -7,11 +7,13 @@ use crate::fault::ComposeFault;
 use table_format::kind::Kind;
 use tables::table::Table;
 
-// The length of the longest composed table: of 250 states and 64 letters.
+// The length of the longest composed table: of 250 states and 64 letters. Clauses write the number out: a name for
+// one inequality would be no plainer.
 pub const LONGEST: usize = 16_252;
 
 // Checks both tables, the pattern's first, and composes them, if their widths, their states and the room
-// allow it.
+// allow it. Apart from `compose`, whose other clauses are laws that follow from these alone; the result and the
+// buffer have a clause each, as two facts that no one definition would say more plainly.
 fn compose_bytes<'a>(
     pattern: &'a [u8],
     scope: &'a [u8],
@@ -37,6 +39,7 @@ fn compose_bytes<'a>(
 //
 // The composed table is a pattern table. It accepts a list of words exactly when the pattern table accepts
 // each judged stretch that the scope table cuts out of the list. The room is the caller's: there is no heap here.
+// The tables come as two slices, as C callers have them.
 pub fn compose<'a>(
     pattern: &'a [u8],
     scope: &'a [u8],

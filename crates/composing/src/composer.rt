@@ -14,11 +14,13 @@ use table_format::kind::Kind;
 use tables::mark::mark_of;
 use tables::table::Table;
 
-// Two tables that compose: their widths are the same, and the composed table has few enough states.
+// Two tables that compose: their widths are the same, and the composed table has few enough states. Clauses name the
+// bytes of both, as the definitions take them: a model of the two would be taken apart in each.
 #[derive(Clone, Copy)]
 pub struct Composer<'a> {
     pattern: Table<'a>,
     scope: Table<'a>,
+    // `block` and `failed` are worked out once, where they are tested
     // how many numbers there are for each scope state
     block: usize,
     // the number of the place `Failed`
@@ -68,7 +70,7 @@ impl<'a> Composer<'a> {
         2 + total + total * self.pattern.size()
     }
 
-    // The place that a number stands for.
+    // The place that a number stands for. No conversion by a trait, neither here nor back: the tables are needed.
     fn place(&self, number: usize) -> Place
         requires { number ≤ self.now.failed }
         ensures value { result ≡ place_at self.now.block (states_of self.now.scope.bytes.now) number }
@@ -83,6 +85,7 @@ impl<'a> Composer<'a> {
         }
     }
 
+    // No number is above `failed`, so `as` loses nothing.
     fn number(&self, place: Place) -> u8
         requires { IsPlace self.now place }
         ensures { result ≡ place_number self.now.block (states_of self.now.scope.bytes.now) place }
@@ -122,7 +125,8 @@ impl<'a> Composer<'a> {
         self.scope.entry(s, letter).unwrap()
     }
 
-    // Where a word leads at which the scope has this entry.
+    // Where a word leads at which the scope has this entry. With no stretch open, `fine` is true and `on` is `fresh`, as
+    // in the definition: an `Option` would be matched at each mark.
     fn lands(&self, entry: u8, fine: bool, on: usize, fresh: usize) -> Place
         requires entry_bound { IsScopeState self.now (entry % 64) }
         requires on_bound { IsPatternState self.now on }
@@ -144,7 +148,8 @@ impl<'a> Composer<'a> {
         }
     }
 
-    // Where a letter leads from a place.
+    // Where a letter leads from a place. Two arms are nearly alike: with no stretch open there is no state to go on
+    // from.
     fn leads(&self, place: Place, letter: usize) -> Place
         requires placed { IsPlace self.now place }
         requires letter_bound { IsLetter self.now letter }

@@ -13,7 +13,7 @@ use std::alloc::AllocError;
 // The terms of one condition, at most eight.
 pub type Terms<T> = Few<T, 8>;
 
-// The terms of each of the 16 conditions.
+// The terms of each of the 16 conditions, by its number: there is no heap for a map.
 pub struct Conditions<T> {
     lists: [Terms<T>; 16],
     ghost whole: { length lists ≡ 16 },

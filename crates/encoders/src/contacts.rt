@@ -47,7 +47,7 @@ impl Contacts {
         Ok(())
     }
 
-    // Gives a condition one more term.
+    // Gives a condition one more term, by its parts: a term that does not fit is refused, and is no value.
     pub fn add_term(&mut self, condition: u8, care: u8, want: u8) -> Result<(), SettingRefusal>
         ensures result { result_err result ≡ term_refused (contact_fair (contacts_of self.old) care want) condition (contact_terms self.old) }
         ensures after { MatchResult result (λ _. HasContacts self.new (contacts_of self.old) (with_term condition (care, want) (contact_terms self.old))) (λ _. self.new ≡ self.old) }

@@ -25,7 +25,7 @@ impl Letters {
         }
     }
 
-    // Sets the width, 0 to 6.
+    // Sets the width, 0 to 6. Contacts have another range and lose their terms, so the two share `Width` alone.
     pub fn set_width(&mut self, width: u8) -> Result<(), SettingRefusal>
         ensures result { result_err result ≡ width_refused width }
         ensures after { MatchResult result (λ _. HasWidth self.new width) (λ _. self.new ≡ self.old) }

@@ -32,7 +32,7 @@ impl Moisture {
         }
     }
 
-    // Gives a condition one more term.
+    // Gives a condition one more term, by its parts. What this has in common with contacts is `Conditions::add`.
     pub fn add_term(
         &mut self,
         condition: u8,

@@ -1,6 +1,7 @@
 ghost use Rattle.std.specs.Prelude.{◌≡◌, Bool};
 
-// A term asks something of a sample, and fits it or not.
+// A term asks something of a sample, and fits it or not. A trait and not a closure, since terms are kept and copied
+// with the settings.
 pub trait Term: Copy {
     // what the term looks at: a sample as it is once its bytes are read
     type Sample: Copy;

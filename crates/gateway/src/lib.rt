@@ -13,7 +13,7 @@ use composing::compose::compose;
 use table_format::check::check;
 use table_format::kind::Kind;
 
-// Minus a refusal's number.
+// Minus a refusal's number: all that the outcomes of checking and of composing have in common.
 fn refusal_code(number: u8) -> i32
     ensures { result ≡ neg_ℤ (pos number) }
 {
@@ -43,7 +43,8 @@ pub fn vontiqa_check_scope_table(bytes: &[u8]) -> i32
     check_code(Kind::Scope, bytes)
 }
 
-// The length of the composed table, written at the front of `out`, or minus the refusal's number.
+// The length of the composed table, written at the front of `out`, or minus the refusal's number. The buffers are as
+// C gives them. A length is at most 16,252, so `as` loses nothing.
 pub fn vontiqa_compose<'a>(pattern: &'a [u8], scope: &'a [u8], out: &mut [u8]) -> i32
     ensures value { result ≡ length_code (composing pattern.now scope.now (length out.old)) }
     ensures bytes { out.new ≡ afterwards (composing pattern.now scope.now (length out.old)) (composed pattern.now scope.now) out.old }

@@ -24,7 +24,8 @@ pub extern "C" fn vontiqa_check_scope_table(bytes: &[u8]) -> i32
     gateway::vontiqa_check_scope_table(bytes)
 }
 
-// The length of the composed table, written at the front of `out`, or minus the refusal's number.
+// The length of the composed table, written at the front of `out`, or minus the refusal's number. The buffers are as
+// C gives them.
 #[unsafe(no_mangle)]
 pub extern "C" fn vontiqa_compose<'a>(pattern: &'a [u8], scope: &'a [u8], out: &mut [u8]) -> i32
     ensures value { result ≡ length_code (composing pattern.now scope.now (length out.old)) }

@@ -16,7 +16,7 @@ pub enum JudgeFault {
 }
 
 impl JudgeFault {
-    // The innermost number.
+    // The innermost number, by which the line names the refusal.
     pub fn number(self) -> u8
         ensures { result ≡ judge_number self }
     {

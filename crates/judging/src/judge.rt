@@ -13,7 +13,8 @@ use tables::pattern::TablePattern;
 use watch::fault::PlayFault;
 use watch::watch::Watch;
 
-// Plays a record of letters to a new watch of the table under globally, and takes the verdict.
+// Plays a record of letters to a new watch of the table under globally, and takes the verdict. The table comes as
+// bytes, since a pattern is loaded from bytes.
 fn judge_record(table: &[u8], record: &[u8]) -> Result<bool, PlayFault>
     requires { checked PatternKind table.now ≡ None }
     ensures { result ≡ record_judged table.now «record».now }
@@ -27,7 +28,8 @@ fn judge_record(table: &[u8], record: &[u8]) -> Result<bool, PlayFault>
     Ok(watch.verdict())
 }
 
-// Composes the two tables of an input into the scratch, and judges the record after them.
+// Composes the two tables of an input into the scratch, and judges the record after them. The scratch is the
+// caller's, since there is no heap here.
 pub fn judge_input(input: &[u8], scratch: &mut [u8]) -> Result<bool, JudgeFault>
     ensures verdict { result ≡ input_judged input.now (length scratch.old) }
     ensures scratch { scratch.new ≡ scratch_of (framed input.now) scratch.old (length scratch.old) }

@@ -7,7 +7,8 @@ ghost use Rattle.judging.specs.declared.line.LineFault.TheVariants.{Room};
 use crate::fault::JudgeFault;
 use crate::judge::judge_input;
 
-// Room for the longest line.
+// Room for the longest line. Clauses write the 12 out and ask for it as a length: an array would ask it of callers,
+// who are refused instead.
 pub const LINE_ROOM: usize = 12;
 
 // Why no line is written.
@@ -18,6 +19,7 @@ pub enum LineFault {
 }
 
 impl LineFault {
+    // An enum of one case, since docs/REFUSALS.md promises a number for it that never changes its meaning.
     pub fn number(self) -> u8
         ensures { result ≡ line_number self }
     {
@@ -27,7 +29,8 @@ impl LineFault {
     }
 }
 
-// Writes a text at the front of the line, and gives its length.
+// Writes a text at the front of the line, and gives its length. Bytes and not a formatter, which would need a writer
+// over the buffer; the length and the bytes have a clause each, as in `judge_line`.
 fn put(text: &[u8], line: &mut [u8]) -> usize
     requires { length text.now ≤ length line.old }
     ensures len { result ≡ length text.now }
@@ -38,6 +41,7 @@ fn put(text: &[u8], line: &mut [u8]) -> usize
     len
 }
 
+// Takes the number and not the fault, as the definition of the text does.
 fn put_refusal(number: u8, line: &mut [u8]) -> usize
     requires number_bound { number < 100 }
     requires in_bounds { 12 ≤ length line.old }

@@ -27,6 +27,8 @@ pub struct Over<S, P> {
 }
 
 impl<S: Scope, P: Pattern> Over<S, P> {
+    // Clauses give `accepts_over` three functions and not two types, since the laws use it of other functions too.
+    // Meaning and rest have a clause each, by which proofs cite them apart.
     pub fn new(scope: S, below: P) -> Over<S, P>
         ensures meaning { ⟦<Over<S, P> as Pattern>⟧.meaning result ≡ accepts_over (S.Scope.marks scope) (S.Scope.answers scope) (P.Pattern.meaning below) }
         ensures fresh { ⟦<Over<S, P> as Pattern>⟧.rest result ≡ accepts_over (S.Scope.marks scope) (S.Scope.answers scope) (P.Pattern.meaning below) }

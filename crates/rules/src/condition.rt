@@ -4,6 +4,7 @@ ghost use Rattle.rules.specs.Words.{has};
 use crate::refusal::SettingRefusal;
 
 // A condition by its number, 0 to 15: it holds of a word whose bit of that number is set.
+// Other numbers with a bound (a width, a reading, a count) are types of their own: each is used otherwise.
 #[derive(Clone, Copy)]
 pub struct Condition {
     number: u8,

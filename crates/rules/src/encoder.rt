@@ -19,6 +19,7 @@ pub trait Encoder {
     fn ask(&self, part: &[u8]) -> Result<u16, SampleRefusal>
         ensures { result ≡ codes self.now part.now };
 
+    // The facts that follow are shown in each impl, by one search of its own `size` and `codes`.
     ghost some: { (e : Self) → 1 ≤ size e };
 
     ghost few: { (e : Self) → size e ≤ 255 };

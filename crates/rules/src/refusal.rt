@@ -14,7 +14,8 @@ pub enum SampleRefusal {
     Letter,
 }
 
-// Reports and C callers know a refusal by its number.
+// Reports and C callers know a refusal by its number. Each enum has a method for it and there is no trait, since
+// nothing takes a refusal of any enum.
 impl SampleRefusal {
     pub fn number(self) -> u8
         ensures { result ≡ sample_number self }
@@ -28,7 +29,8 @@ impl SampleRefusal {
     }
 }
 
-// Why a setting or a term is not taken.
+// Why a setting or a term is not taken. Each setter says in one clause what it does and that a refusal changes
+// nothing: what it does differs from kind to kind.
 #[derive(Clone, Copy, PartialEq, Eq, Debug)]
 pub enum SettingRefusal {
     // a number of contacts, a width, a condition or a chain's length is out of range

@@ -26,7 +26,7 @@ pub enum Call<'a> {
     Verdict,
 }
 
-// What a call answers.
+// What a call answers. The crate `second` has answers of its own, so that a slip here is not repeated there.
 #[derive(Clone, Copy, PartialEq, Debug)]
 pub enum Answer {
     Fed(Result<u32, WatchFault>),
@@ -35,7 +35,7 @@ pub enum Answer {
     Judged(bool),
 }
 
-// Makes one call.
+// Makes one call. Clauses name `codes`, `size` and `meaning` one by one, as the definitions take them.
 fn answer_one<E: Encoder, R: Pattern>(watch: &mut Watch<E, R>, call: Call<'_>) -> Answer
     ensures answer { Answers E.Encoder R.Pattern watch.old (λ list. answer_to (E.Encoder.codes watch.old.encoder) (E.Encoder.size watch.old.encoder) (R.Pattern.meaning watch.old.rule) list call.entry) result }
     ensures after { Leads E.Encoder R.Pattern watch.old (λ list. list_after (E.Encoder.codes watch.old.encoder) (E.Encoder.size watch.old.encoder) list call.entry) watch.new }
@@ -52,7 +52,7 @@ fn answer_one<E: Encoder, R: Pattern>(watch: &mut Watch<E, R>, call: Call<'_>) -
     }
 }
 
-// Makes the calls in their order.
+// Makes the calls in their order. A loop, since each push may lack memory and each call changes the watch.
 fn answer_all<E: Encoder, R: Pattern>(
     heap: Global,
     watch: &mut Watch<E, R>,

@@ -24,7 +24,8 @@ fn first_bad_entry(kind: Kind, states: u8, entries: &[u8]) -> Option<usize>
         .position(|entry| kind.next_state(*entry) >= states)
 }
 
-// Looks at the bytes in the order of the format, and stops at the first thing that is wrong.
+// Looks at the bytes in the order of the format, and stops at the first thing that is wrong. Apart from `check`,
+// whose other clauses are laws that follow from this one alone.
 fn examine(kind: Kind, bytes: &[u8]) -> Result<(), TableFault>
     ensures { result_err result ≡ checked kind bytes.now }
 {
@@ -55,7 +56,7 @@ fn examine(kind: Kind, bytes: &[u8]) -> Result<(), TableFault>
 }
 
 // Whether the bytes are a lawful table of the kind: it succeeds exactly on lawful tables, and a fault
-// names the first thing that is wrong.
+// names the first thing that is wrong. Kind and bytes come apart: together they are a `Table`, once checked.
 pub fn check(kind: Kind, bytes: &[u8]) -> Result<(), TableFault>
     ensures says { result_err result ≡ checked kind bytes.now }
     ensures lawful { Decides (is_ok result) (Lawful kind bytes.now) }

@@ -4,7 +4,8 @@ ghost use Rattle.table_format.specs.Texts.{kind_text};
 
 use std::fmt;
 
-// A pattern table says which lists are accepted, and a scope table marks words.
+// A pattern table says which lists are accepted, and a scope table marks words. The crate `second` writes its own,
+// so that a slip here is not repeated there.
 #[derive(Clone, Copy, PartialEq, Eq, Debug)]
 pub enum Kind {
     Pattern,

@@ -12,9 +12,11 @@ static ACCEPT_ALL: [u8; 4] = [1, 1, 0, 0];
 
 static MARK_ALL_IN: [u8; 4] = [1, 1, 0, 64];
 
-// A lawful table, borrowed. Whoever has one reads it without checking it again.
+// A lawful table, borrowed. Whoever has one reads it without checking it again. Clauses name its bytes, of which all
+// definitions of the format are: a `Model` would be a second name for them.
 #[derive(Clone, Copy)]
 pub struct Table<'a> {
+    // a value and not a parameter of the type, since callers choose it when the program runs
     kind: Kind,
     bytes: &'a [u8],
     // read off the bytes once, so that a word costs no shift: the number of states and the length of a row
@@ -48,7 +50,8 @@ impl<'a> Table<'a> {
         Ok(Table::over(kind, bytes))
     }
 
-    // Checks the bytes and holds them in place of the table held. A refusal keeps the one held.
+    // Checks the bytes and holds them in place of the table held. A refusal keeps the one held, as the one clause
+    // on both outcomes says.
     pub fn replace(&mut self, bytes: &'a [u8]) -> Result<(), TableFault>
         ensures says { result_err result ≡ checked self.old.kind bytes.now }
         ensures holds { MatchResult result (λ _. (self.new.kind ≡ self.old.kind) × (self.new.bytes.now ≡ bytes.now)) (λ _. self.new ≡ self.old) }
@@ -124,6 +127,7 @@ impl<'a> Table<'a> {
         word as usize & (self.size - 1)
     }
 
+    // The flag of a state that exists. This and `entry_of` give no `Option`, since it would never be `None`.
     pub(crate) fn flag_of(&self, state: usize) -> bool
         requires { state < states_of self.now.bytes.now }
         ensures { result ≡ flag_of self.now.bytes.now state }

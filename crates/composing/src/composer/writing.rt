@@ -39,7 +39,8 @@ impl<'a> Composer<'a> {
         }
     }
 
-    // Writes the composed table over the whole of `out`.
+    // Writes the composed table over the whole of `out`, by the offsets that the format names. The total is at most
+    // 250, so `as` loses nothing.
     pub(crate) fn write(&self, out: &mut [u8])
         requires { length out.old ≡ composed_length self.now.pattern.bytes.now self.now.scope.bytes.now }
         ensures { out.new ≡ composed self.now.pattern.bytes.now self.now.scope.bytes.now }

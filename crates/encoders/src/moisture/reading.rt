@@ -24,6 +24,7 @@ impl Reading {
         if !(-MOST..=MOST).contains(&hundredths) {
             return None;
         }
+        // `as` loses nothing in this range, where a checked conversion would have a case that cannot be
         Some(Reading {
             hundredths: hundredths as i16,
         })

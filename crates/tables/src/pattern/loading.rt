@@ -12,7 +12,8 @@ use table_format::fault::TableFault;
 use table_format::kind::Kind;
 
 impl<'a> TablePattern<'a> {
-    // The pattern of the built-in table, at its start.
+    // The pattern of the built-in table, at its start. Meaning and rest have a clause each, as at
+    // `Over::new`.
     pub fn new() -> TablePattern<'a>
         ensures meaning { ⟦<TablePattern<'a> as Pattern>⟧.meaning result ≡ accepts (built_in PatternKind) }
         ensures fresh { ⟦<TablePattern<'a> as Pattern>⟧.rest result ≡ accepts (built_in PatternKind) }

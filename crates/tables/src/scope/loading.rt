@@ -12,7 +12,8 @@ use table_format::fault::TableFault;
 use table_format::kind::Kind;
 
 impl<'a> TableScope<'a> {
-    // The scope of the built-in table, at its start.
+    // The scope of the built-in table, at its start. `IsFreshScope` does not say it: a table's answer depends on the
+    // list.
     pub fn new() -> TableScope<'a>
         ensures marks { (⟦<TableScope<'a> as Scope>⟧.marks result ≡ marks (built_in ScopeKind)) × (⟦<TableScope<'a> as Scope>⟧.rest_marks result ≡ marks (built_in ScopeKind)) }
         ensures answers { (⟦<TableScope<'a> as Scope>⟧.answers result ≡ says (built_in ScopeKind)) × (⟦<TableScope<'a> as Scope>⟧.rest_answers result ≡ says (built_in ScopeKind)) }
