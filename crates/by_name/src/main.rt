@@ -7,6 +7,8 @@ use formulas::laws::formulas_stand;
 use formulas::named::NamedPattern;
 use std::io;
 
+// Conditions have only numbers in the library: each program names its own.
+
 // D, the dryer is driven
 const DRIVEN: u8 = 0;
 
@@ -17,6 +19,7 @@ const BREAK: u8 = 1;
 const THREADED: u8 = 2;
 
 // The ten patterns that have a published formula, over D, B and T.
+// A name beside each and no `Display`: a pattern knows its conditions by number, and these letters are ours.
 static NAMED: [(&str, NamedPattern); 10] = [
     ("always D", NamedPattern::Always { p: DRIVEN }),
     ("never D", NamedPattern::Never { p: DRIVEN }),

@@ -58,7 +58,7 @@ pub enum CodingKind {
     Letters,
 }
 
-// An encoder, with its terms in the order in which they came.
+// An encoder, with its terms in the order in which they came: a list for each condition is the library's way.
 #[derive(Drop)]
 pub enum Coding {
     Contacts {
@@ -105,6 +105,7 @@ fn is_reading(hundredths: i32) -> bool {
 }
 
 // Two bytes as a reading: the number that they are, or the negative one that is the same by 65,536.
+// Worked out by hand: the library reads them in one call, and this is to be another road.
 fn reading(high: u8, low: u8) -> i32 {
     let plain = i32::from(high) * 256 + i32::from(low);
     if high < 128 { plain } else { plain - 65_536 }

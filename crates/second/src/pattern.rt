@@ -5,6 +5,7 @@ use crate::text::Text;
 use crate::words::{any_has, count_of, has};
 use rules::mark::Mark;
 
+// Forms of its own: of the library, this crate takes only the marks.
 #[derive(Clone, Copy, Debug)]
 pub enum Form {
     Exactly,
@@ -20,6 +21,7 @@ pub struct Times {
 }
 
 impl Times {
+    // Three comparisons: what `cmp` gives would be matched with the form all the same.
     fn suits(self, count: usize) -> bool {
         let number = usize::from(self.number);
         match self.form {

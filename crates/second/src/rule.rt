@@ -11,6 +11,7 @@ pub fn keeps(
     pattern: &PatternText<'_>,
     words: &[u16],
 ) -> Result<bool, AllocError> {
+    // Loops, since each cut needs memory, which may be missing: then `?` ends them.
     let mut stretches = vec![in heap; words]?;
     for scope in scopes {
         let mut cut = Vec::new(heap);

@@ -24,6 +24,7 @@ fn is_open(words: &[u16], opening: u8, closing: u8) -> bool {
     })
 }
 
+// A function and no `From`: neither type is of this crate.
 fn in_if(inside: bool) -> Mark {
     if inside { Mark::In } else { Mark::Out }
 }
@@ -82,6 +83,7 @@ impl<'a> Text for ScopeText<'a> {
 
 impl<'a> ScopeText<'a> {
     // The judged stretches, found by trying all pairs of places.
+    // Two loops, since keeping what is found needs memory, which may be missing: then `?` ends them.
     pub fn judged<'w>(&self, heap: Global, words: &'w [u16]) -> Result<Vec<&'w [u16]>, AllocError> {
         let marks: Vec<Mark> = (0..words.len())
             .filter_map(|at| self.mark(words.get(..=at)?))

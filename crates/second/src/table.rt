@@ -2,6 +2,7 @@ use crate::refusal::{Refusal, Stop, Why};
 use rules::mark::Mark;
 use std::alloc::{AllocError, Global};
 
+// Kinds of its own: of the library, this crate takes only the marks.
 #[derive(Clone, Copy, Debug)]
 pub enum TableKind {
     Pattern,
@@ -33,6 +34,7 @@ impl TableKind {
 }
 
 // What an entry of a scope table marks a word as.
+// A function and no `From`: neither type is of this crate.
 fn mark_of(entry: usize) -> Mark {
     match entry / 64 {
         0 => Mark::Out,
@@ -64,6 +66,7 @@ impl<'a> TableText<'a> {
         self.byte_at(state.saturating_add(1)) == 1
     }
 
+    // Found in the flat bytes, since the table is its bytes: a list of rows would be another format.
     pub fn entry(&self, state: usize, letter: usize) -> usize {
         let row = state.saturating_mul(self.letters());
         let start = self.states().saturating_add(2);
@@ -234,6 +237,7 @@ impl<'a> Pair<'a> {
     }
 
     // The composed table, state by state.
+    // Loops and no chain: a number that is no byte, or missing memory, ends them by `?`.
     pub fn composed(&self, heap: Global, room: usize) -> Result<Vec<u8>, Stop> {
         self.check(room)?;
         let states = self.states(heap)?;

@@ -11,6 +11,7 @@ pub trait Text: Copy {
     fn unset(self) -> Self;
 
     // The text once the settings of another of its kind were put to it; or none, where that does not start it.
+    // No Result with the refusal in it: settings that are refused may change the text all the same.
     fn given(self, other: Self) -> Option<Self>;
 
     // What the final word of a list is marked as, where words are marked.

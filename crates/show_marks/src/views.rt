@@ -8,7 +8,7 @@ use scopes::between::Between;
 use scopes::globally::Globally;
 use std::io;
 
-// One scope of each kind, side by side.
+// One scope of each kind, side by side: five fields and no list, since each is of another type.
 #[derive(Clone, Copy)]
 pub struct Views {
     globally: Globally,

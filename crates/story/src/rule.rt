@@ -6,6 +6,8 @@ ghost use Rattle.story.specs.Contacted.{story_terms};
 use encoders::contacts::Contacts;
 use rules::refusal::SettingRefusal;
 
+// Conditions have only numbers in the library: each program names its own.
+
 // D, the dryer is driven
 pub const DRIVEN: u8 = 0;
 // B, the sheet breaks

@@ -33,6 +33,7 @@ static CALLS: [Call<'static>; 13] = [
 ];
 
 // The answers under never D between B and T.
+// The rule is spelled out: it is the one place here that speaks of it.
 fn answers(heap: Global, calls: &[Call<'_>]) -> Result<Vec<Answer>, Trouble>
     ensures { IfOk result (λ v. v.items ≡ answers_by story_codes 1 (accepts_over (between_mark 1 2) (λ l. false) (never_by 0)) [] calls.now) }
 {
@@ -45,6 +46,7 @@ fn answers(heap: Global, calls: &[Call<'_>]) -> Result<Vec<Answer>, Trouble>
 pub fn tell(rt: &HostRuntime) -> Result<(), Trouble> {
     println!(rt; "Never D between B and T, by a watch")?;
     let answers = answers(rt.alloc(), &CALLS)?;
+    // side by side, since `run` gives an answer for each call, in the order of the calls
     for (call, answer) in CALLS.iter().zip(answers.iter()) {
         tell_answer(rt, *call, *answer)?;
     }

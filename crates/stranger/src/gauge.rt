@@ -6,6 +6,7 @@ ghost use Rattle.stranger.specs.Gauges.{gauge_codes};
 use rules::encoder::Encoder;
 
 // Samples of two bytes: a level and its complement.
+// What it says is spelled out: a stranger need know no name but the trait's.
 #[derive(Clone, Copy)]
 pub struct Gauge {}
 

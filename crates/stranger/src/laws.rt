@@ -16,6 +16,7 @@ use runs::{Answer, Call, run};
 use std::alloc::{AllocError, Global};
 
 // The run law at the gauge, the batches and the pairs: the answers to any list of calls, and when a verdict is yes.
+// The rule is spelled out in each clause, so that a clause is read against the laws with no name between.
 pub fn run_gauge(heap: Global, calls: &[Call<'_>]) -> Result<Vec<Answer>, AllocError>
     ensures answers { IfOk result (λ v. v.items ≡ answers gauge_codes 2 (accepts_over batch_mark batch_says paired) [] calls.now) }
     ensures verdicts { (list : Samples) → Decides (accepts_over batch_mark batch_says paired (words_of gauge_codes list)) (AcceptsEach batch_mark batch_says paired (words_of gauge_codes list)) }

@@ -6,6 +6,7 @@ ghost use Rattle.stranger.specs.Paired.{paired};
 use rules::pattern::Pattern;
 
 // Words in pairs: an even number of them.
+// What it says is spelled out: a stranger need know no name but the trait's.
 #[derive(Clone, Copy)]
 pub struct Pairs {
     odd: bool,

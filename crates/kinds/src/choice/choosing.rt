@@ -9,6 +9,7 @@ use rules::pattern::Pattern;
 use rules::refusal::SampleRefusal;
 use rules::scope::Scope;
 
+// A match in each method: of the eight methods of three traits, no two could be written as one.
 // A choice of two patterns is a pattern, which means what the chosen one means.
 impl<A: Pattern, B: Pattern> Pattern for Choice<A, B> {
     ghost meaning = { chosen A.Pattern.meaning B.Pattern.meaning };

@@ -7,6 +7,7 @@ use rules::refusal::SampleRefusal;
 
 const SIZE: usize = 2;
 
+// Written out whole, since a stranger has the trait and nothing of the other encoders.
 impl Encoder for Gauge {
     ghost size = { λ _. 2 };
 
