@@ -8,7 +8,8 @@ use std::fmt;
 use table_format::fault::TableFault;
 use watch::fault::{PlayFault, WatchFault};
 
-// A refusal as it is compared: its number, the byte to blame, and how many samples were accepted before.
+// A refusal as it is compared: its number, since each side has an enum of its own, the byte to blame, and how many
+// samples were accepted before.
 #[derive(Clone, Copy, PartialEq, Debug)]
 pub struct Refusal {
     number: u8,
