@@ -50,7 +50,7 @@ impl<'a> Composer<'a> {
         let block = pattern.states() + 1;
         let failed = scope.states() * block;
         let total = failed + 1;
-        if total > Kind::Pattern.most_states() as usize {
+        if total > usize::from(Kind::Pattern.most_states()) {
             return Err(ComposeFault::States);
         }
         Ok(Composer {
@@ -104,7 +104,7 @@ impl<'a> Composer<'a> {
         ensures value { result ≡ entry_of self.now.pattern.bytes.now q letter }
         ensures within { IsPatternState self.now result }
     {
-        self.pattern.entry(q, letter).unwrap() as usize
+        usize::from(self.pattern.entry(q, letter).unwrap())
     }
 
     // Whether the pattern accepts in a state.
@@ -134,7 +134,7 @@ impl<'a> Composer<'a> {
         ensures value { result ≡ lands self.now.pattern.bytes.now (mark_of entry) (entry % 64) fine on fresh }
         ensures within { IsPlace self.now result }
     {
-        let s = Kind::Scope.next_state(entry) as usize;
+        let s = usize::from(Kind::Scope.next_state(entry));
         let closes = match mark_of(entry) {
             Mark::In => return Place::Inside(s, on),
             Mark::Anew => return Place::Inside(s, fresh),

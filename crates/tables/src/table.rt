@@ -66,7 +66,7 @@ impl<'a> Table<'a> {
         ensures bytes { result.bytes.now ≡ bytes.now }
         ensures kind { result.kind ≡ kind }
     {
-        let states = bytes[0] as usize;
+        let states = usize::from(bytes[0]);
         let size = 1usize << bytes[1 + states];
         Table {
             kind,
@@ -124,7 +124,7 @@ impl<'a> Table<'a> {
         ensures value { result ≡ letter_of self.now.bytes.now word }
         ensures below { result < size_of self.now.bytes.now }
     {
-        word as usize & (self.size - 1)
+        word as usize & (self.size - 1) // by `as`, which the proof computes through
     }
 
     // The flag of a state that exists. This and `entry_of` give no `Option`, since it would never be `None`.

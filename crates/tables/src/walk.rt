@@ -59,7 +59,7 @@ impl<'a> Walk<'a> {
         ensures kept { self.new.table ≡ self.old.table }
         ensures stands { self.new.state ≡ state }
     {
-        self.state = state as usize;
+        self.state = usize::from(state);
     }
 
     // The flag of the state.
