@@ -17,6 +17,7 @@ use second::watch::WatchText;
 use std::alloc::{AllocError, Global};
 
 // A call of a watch, with its bytes.
+// It owns the bytes that a `Call` borrows.
 #[derive(Debug, Drop)]
 pub enum Step {
     Feed(Vec<u8>),
@@ -34,6 +35,7 @@ enum StepKind {
 }
 
 // The rule of a case: its scopes, the outermost first, and its pattern.
+// Three fields and no list: each scope makes another type of what is below it.
 #[derive(Clone, Copy, Debug)]
 pub struct Rule<'a> {
     pub outer: ScopeText<'a>,
@@ -107,6 +109,7 @@ fn sample(dice: &mut Dice, kind: CodingKind) -> Result<Vec<u8>, AllocError> {
 }
 
 // What the library answered, as a reply.
+// No `From`: it stands with the runs that it serves, and `reply` knows of refusals alone.
 fn reply_of(answer: Answer) -> Reply {
     match answer {
         Answer::Fed(answer) => Reply::of(answer.map(|count| Reply::Accepted(count as usize))),
@@ -181,6 +184,7 @@ impl Story {
 
     pub fn theirs(&self, heap: Global, rule: Rule<'_>) -> Result<Vec<Reply>, AllocError> {
         let mut coding = Coding::new(heap, self.kind);
+        // a loop: a refused setting is passed over, and missing memory ends the run
         for setting in self.settings.iter() {
             if let Err(stop) = coding.set(*setting) {
                 stop.refusal()?;
@@ -190,6 +194,7 @@ impl Story {
         let scopes = rule.held_scopes(heap)?;
         let pattern = rule.pattern.held();
         let mut replies = Vec::new(heap);
+        // a loop, since missing memory ends it by `?` in three of its arms
         for step in self.steps.iter() {
             let reply = match step {
                 Step::Feed(sample) => Reply::heard(watch.feed(sample).map(Reply::Accepted))?,

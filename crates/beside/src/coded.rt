@@ -138,6 +138,7 @@ fn part(dice: &mut Dice, kind: CodingKind) -> Result<Vec<u8>, AllocError> {
 fn replies<E: Asked + Drop>(heap: Global, new: E, case: &Case) -> Result<Vec<Reply>, AllocError> {
     let mut encoder = new;
     let mut replies = Vec::new(heap);
+    // loops, since missing memory ends them by `?`
     for setting in case.settings.iter() {
         replies.push(encoder.set(*setting)?)?;
     }

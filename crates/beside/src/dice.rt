@@ -16,6 +16,7 @@ impl Dice {
         }
     }
 
+    // A roll is cut by `as` where it is used: only its low bits are wanted, which no `From` gives.
     fn roll(&mut self) -> u64 {
         let mut x = self.state;
         x = x ^ (x << 13);

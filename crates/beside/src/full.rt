@@ -6,6 +6,7 @@ use second::pattern::PatternText;
 use second::scope::ScopeText;
 use std::alloc::{AllocError, Global};
 
+// Written here once more, so that a wrong limit on either side shows.
 const MOST_SAMPLES: usize = 1_000_000;
 
 // A record of so many samples of zeros, played.

@@ -41,6 +41,7 @@ pub type AnyPattern<'a> = Choice<Choice<Plain, TablePattern<'a>>, Choice<Counted
 pub type AnyEncoder = Choice<Contacts, Choice<Moisture, Letters>>;
 
 // What takes its settings from a text of its kind.
+// A trait and no closure: a `Choice` of kinds is set as the one that it holds.
 pub trait Settable<T> {
     fn set(&mut self, text: T) -> Result<(), Refusal>;
 }
@@ -61,6 +62,7 @@ impl<T, A: Settable<T>, B: Settable<T>> Settable<T> for Choice<A, B> {
     }
 }
 
+// Each kind takes the texts of its own kind: the impls differ in a variant and a call, for which no parameter stands.
 impl Settable<Setting> for Contacts {
     fn set(&mut self, text: Setting) -> Result<(), Refusal> {
         match text {
@@ -178,6 +180,7 @@ pub fn scope_of<'a>(text: ScopeText<'a>) -> AnyScope<'a> {
     held(new_scope(text), text)
 }
 
+// No `From`: neither form is of this crate.
 fn form_of(times: Times) -> Form {
     match times.form {
         second::pattern::Form::Exactly => Form::Exactly,

@@ -18,6 +18,7 @@ pub struct Refusal {
 }
 
 // What either side replies.
+// One enum and no Result inside: a refusal is compared and printed as any other reply.
 #[derive(Clone, Copy, PartialEq, Debug)]
 pub enum Reply {
     Done,

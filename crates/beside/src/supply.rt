@@ -41,6 +41,7 @@ pub enum Damage {
 }
 
 // The bytes that the texts of one case speak of.
+// Four fields and no list, since a text borrows each by its name.
 #[derive(Drop)]
 pub struct Supply {
     first: Vec<u8>,

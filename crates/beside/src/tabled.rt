@@ -28,6 +28,7 @@ enum Length {
 }
 
 // What a call replies, and what its buffer holds then.
+// Not one struct with `Lined`, which has two buffers: each is compared with the one of its name.
 #[derive(Drop)]
 struct Composed {
     reply: Reply,
@@ -88,6 +89,7 @@ impl Length {
     }
 }
 
+// Kind and bytes, as the library takes them; no `From` for the kind, since neither is of this crate.
 fn check_ours(kind: TableKind, bytes: &[u8]) -> Reply {
     let kind = match kind {
         TableKind::Pattern => Kind::Pattern,

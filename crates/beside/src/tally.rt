@@ -85,10 +85,7 @@ impl Tally {
 
     // Whether a case of this size would be the smallest in which the two differ.
     fn is_smallest(&self, size: usize) -> bool {
-        match &self.smallest {
-            Some(known) => size < known.size,
-            None => true,
-        }
+        self.smallest.as_ref().is_none_or(|known| size < known.size)
     }
 
     pub fn cases(&self) -> usize {

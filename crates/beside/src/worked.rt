@@ -7,6 +7,8 @@ use second::pattern::{Form, PatternText, Times};
 use second::scope::ScopeText;
 use std::alloc::{AllocError, Global};
 
+// Conditions have only numbers in the library: each program names its own.
+
 // D, the dryer is driven
 const D: u8 = 0;
 // B, the sheet breaks
@@ -25,6 +27,7 @@ const AT_MOST_TWO: Times = Times {
 };
 
 // A rule, a record of words, and whether the record keeps the rule.
+// No `Rule` inside: no example has a scope in the middle, and each would have to say so.
 struct Example {
     outer: ScopeText<'static>,
     inner: Option<ScopeText<'static>>,
