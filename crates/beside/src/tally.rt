@@ -120,7 +120,7 @@ impl Family {
     }
 
     // What comes out where so many cases are compared, each by its number.
-    pub fn compared<F: FnMut(&mut Family, usize) -> Result<(), AllocError>>(
+    pub(crate) fn compared<F: FnMut(&mut Family, usize) -> Result<(), AllocError>>(
         mut self,
         cases: usize,
         mut compare: F,

@@ -23,9 +23,9 @@ impl Chain {
     pub fn first() -> Chain
         ensures { chain_of result ≡ 0 ∷ [] }
     {
-        Chain {
-            conditions: Few::one(Condition::first()),
-        }
+        let mut conditions = Few::none(Condition::first());
+        conditions.push(Condition::first()).unwrap();
+        Chain { conditions }
     }
 
     // The chain of these conditions, where there are one to four and each is the number of one. Setters take numbers,

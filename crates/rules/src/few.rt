@@ -40,17 +40,6 @@ impl<T: Copy, const N: usize> Few<T, N> {
         }
     }
 
-    // One item.
-    pub fn one(item: T) -> Few<T, N>
-        requires { 0 < N }
-        ensures { items_of result ≡ item ∷ [] }
-    {
-        Few {
-            places: [item; N],
-            count: 1,
-        }
-    }
-
     // Appends an item, if there is room.
     pub fn push(&mut self, item: T) -> Result<(), NoRoom>
         ensures ok { OnOk result ((length (items_of self.old) < N) × (items_of self.new ≡ items_of self.old ++ item ∷ [])) }
