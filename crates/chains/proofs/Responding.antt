@@ -1,7 +1,5 @@
 -- A word at the openings of a stimulus, and at the response to it.
 use Rattle.std.proofs.Common.{◌≡◌, ℕ, zero, suc, ◌+◌, ◌<◌, ◌≤◌, Bool, true, false, cond, not, ◌&&◌, ◌||◌, leb, List, [], ◌∷◌, length, drop, sym, refl, ap, ◌∙◌, ap₂, arith}
-use mathlib.Core.Path.{fun_ext}
-use Rattle.std.proofs.lemmas.List.{drop_all}
 use Rattle.std.proofs.lemmas.Bool.Decides.{nat_tests}
 use Rattle.rules.specs.Words.{has}
 use Rattle.chains.specs.Chains.{occurs, due, responds}
@@ -96,10 +94,6 @@ responds_step (p ∷ c) s us j w l h g =
 
 pub responds_next : (f s : List ℕ) (us us' : List Bool) (j j' w : ℕ) (l : List ℕ) → 0 < length f → length f ≤ 4 → length us ≡ 3 → us' ≡ opened f us w → j' ≡ next_met s (cond (completes f us w) 0 j) w → responds_on f s us' j' l ≡ responds_on f s us j (w ∷ l)
 responds_next f s us us' j j' w l h g n e i = rw (e, i) (responds_step f s us j w l h (omega arith))
-
--- before the first word nothing is under way and nothing is owed
-pub responds_start : (f s : List ℕ) (us : List Bool) (j : ℕ) → us ≡ false ∷ false ∷ false ∷ [] → j ≡ length s → responds_on f s us j ≡ responds f s
-responds_start f s us j e i = let h : length s ≤ j = omega arith in fun_ext (λ l. rw (e, drop_all j s h))
 
 no_words : (c s : List ℕ) → due c s [] ≡ true
 no_words [] s = refl
