@@ -109,13 +109,16 @@ fn sample(dice: &mut Dice, kind: CodingKind) -> Result<Vec<u8>, AllocError> {
 }
 
 // What the library answered, as a reply.
-// No `From`: it stands with the runs that it serves, and `reply` knows of refusals alone.
-fn reply_of(answer: Answer) -> Reply {
-    match answer {
-        Answer::Fed(answer) => Reply::of(answer.map(|count| Reply::Accepted(count as usize))),
-        Answer::Played(answer) => Reply::of(answer.map(|count| Reply::Accepted(count as usize))),
-        Answer::Begun => Reply::Done,
-        Answer::Judged(kept) => Reply::Judged(kept),
+impl From<Answer> for Reply {
+    fn from(answer: Answer) -> Reply {
+        match answer {
+            Answer::Fed(answer) => Reply::of(answer.map(|count| Reply::Accepted(count as usize))),
+            Answer::Played(answer) => Reply::of(answer.map(|count| Reply::Accepted(
+                count as usize,
+            ))),
+            Answer::Begun => Reply::Done,
+            Answer::Judged(kept) => Reply::Judged(kept),
+        }
     }
 }
 
@@ -179,7 +182,10 @@ impl Story {
         let inner = under(rule.inner, pattern_of(rule.pattern));
         let middle = under(rule.middle, inner);
         let answers = run(heap, encoder, scope_of(rule.outer), middle, &calls)?;
-        answers.iter().map(|answer| reply_of(*answer)).collect(heap)
+        answers
+            .iter()
+            .map(|answer| Reply::from(*answer))
+            .collect(heap)
     }
 
     pub fn theirs(&self, heap: Global, rule: Rule<'_>) -> Result<Vec<Reply>, AllocError> {
@@ -203,7 +209,7 @@ impl Story {
                     watch.new_record();
                     Reply::Done
                 }
-                Step::Verdict => Reply::Judged(watch.verdict(&scopes, &pattern)?),
+                Step::Verdict => Reply::Judged(watch.try_verdict(&scopes, &pattern)?),
             };
             replies.push(reply)?;
         }

@@ -40,7 +40,7 @@ fn outcome(heap: Global, pair: Pair<'_>, record: &[u8]) -> Result<bool, Stop> {
     let mut watch = WatchText::new(heap, coding);
     watch.play(record)?;
     let scopes = [ScopeText::Table(pair.scope)];
-    Ok(watch.verdict(&scopes, &PatternText::Table(pair.pattern))?)
+    Ok(watch.try_verdict(&scopes, &PatternText::Table(pair.pattern))?)
 }
 
 // Judges an input, and leaves the composed table.

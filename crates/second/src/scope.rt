@@ -84,7 +84,11 @@ impl<'a> Text for ScopeText<'a> {
 impl<'a> ScopeText<'a> {
     // The judged stretches, found by trying all pairs of places.
     // Two loops, since keeping what is found needs memory, which may be missing: then `?` ends them.
-    pub fn judged<'w>(&self, heap: Global, words: &'w [u16]) -> Result<Vec<&'w [u16]>, AllocError> {
+    pub fn try_judged<'w>(
+        &self,
+        heap: Global,
+        words: &'w [u16],
+    ) -> Result<Vec<&'w [u16]>, AllocError> {
         let marks: Vec<Mark> = (0..words.len())
             .filter_map(|at| self.mark(words.get(..=at)?))
             .collect(heap)?;
@@ -102,6 +106,14 @@ impl<'a> ScopeText<'a> {
             }
         }
         Ok(found)
+    }
+
+    // The same, and none where there is no memory for them.
+    pub fn judged<'w>(&self, heap: Global, words: &'w [u16]) -> Vec<&'w [u16]> {
+        match self.try_judged(heap, words) {
+            Ok(found) => found,
+            Err(_) => Vec::new(heap),
+        }
     }
 }
 
