@@ -7,20 +7,18 @@ use crate::fault::ComposeFault;
 use table_format::kind::Kind;
 use tables::table::Table;
 
-// The length of the longest composed table: of 250 states and 64 letters. Clauses write the number out: a name for
-// one inequality would be no plainer.
+// The length of the longest composed table: of 250 states and 64 letters.
 pub const LONGEST: usize = 16_252;
 
 // Checks both tables, the pattern's first, and composes them, if their widths, their states and the room
-// allow it. Apart from `compose`, whose other clauses are laws that follow from these alone; the result and the
-// buffer have a clause each, as two facts that no one definition would say more plainly.
+// allow it. Apart from `compose`, whose other clauses are laws that follow from these alone.
 fn compose_bytes<'a>(
     pattern: &'a [u8],
     scope: &'a [u8],
     out: &mut [u8],
 ) -> Result<usize, ComposeFault>
     ensures value { result ≡ composing pattern.now scope.now (length out.old) }
-    ensures short { IfOk result (λ n. n ≤ 16252) }
+    ensures short { IfOk result (λ n. n ≤ LONGEST) }
     ensures bytes { out.new ≡ afterwards result (composed pattern.now scope.now) out.old }
 {
     let pattern = Table::new(Kind::Pattern, pattern).map_err(ComposeFault::Pattern)?;
@@ -46,7 +44,7 @@ pub fn compose<'a>(
     out: &mut [u8],
 ) -> Result<usize, ComposeFault>
     ensures value { result ≡ composing pattern.now scope.now (length out.old) }
-    ensures short { IfOk result (λ n. n ≤ 16252) }
+    ensures short { IfOk result (λ n. n ≤ LONGEST) }
     ensures bytes { out.new ≡ afterwards result (composed pattern.now scope.now) out.old }
     ensures long { IfOk result (λ n. n ≡ length (composed pattern.now scope.now)) }
     ensures decided { Decides (is_ok result) (Composable pattern.now scope.now (length out.old)) }

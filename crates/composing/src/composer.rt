@@ -126,7 +126,7 @@ impl<'a> Composer<'a> {
     }
 
     // Where a word leads at which the scope has this entry. With no stretch open, `fine` is true and `on` is `fresh`, as
-    // in the definition: an `Option` would be matched at each mark.
+    // in the definition that the clause cites.
     fn lands(&self, entry: u8, fine: bool, on: usize, fresh: usize) -> Place
         requires entry_bound { IsScopeState self.now (entry % 64) }
         requires on_bound { IsPatternState self.now on }

@@ -53,6 +53,7 @@ pub fn announced(input: &[u8]) -> Option<usize>
     ensures { result ≡ announcement input.now }
 {
     let bytes = input.first_chunk::<PREFIX>()?;
+    // a usize holds every u32, and the library has no `From` for it
     Some(u32::from_be_bytes(*bytes) as usize)
 }
 

@@ -10,6 +10,7 @@ pub fn read_input<R: Read + Drop>(heap: Global, input: R) -> io::Result<Vec<u8>>
     ensures { IfOk result (λ v. IfSome (R.remaining input) (λ bytes. v.items ≡ take (MOST_INPUT + 1) bytes)) }
 {
     let mut bytes = Vec::new(heap);
+    // the limit is a constant that a u64 holds
     input.take(MOST_INPUT as u64 + 1).read_to_end(&mut bytes)?;
     Ok(bytes)
 }

@@ -1,5 +1,5 @@
 -- The line that tells an outcome, as the codes of its characters: `yes`, `no` or `refused N`, and byte 10.
-use Rattle.std.specs.Prelude.{ℕ, ◌+◌, ◌/◌, ◌%◌, Bool, true, false, cond, List, [], ◌∷◌, ◌++◌, length, drop, Ok, Err, Result, nat_lt}
+use Rattle.std.specs.Prelude.{◌≡◌, ℕ, ◌+◌, ◌/◌, ◌%◌, Bool, true, false, cond, List, [], ◌∷◌, ◌++◌, length, drop, Ok, Err, Result, nat_lt}
 use Rattle.judging.specs.declared.fault.JudgeFault.{JudgeFault}
 use Rattle.judging.specs.declared.line.LineFault.{LineFault}
 use Rattle.judging.specs.declared.line.LineFault.TheVariants.{Room}
@@ -23,3 +23,7 @@ line_of (Err fault) = refused_text (judge_number fault)
 -- text at the front of a buffer
 abbrev pub over : List ℕ → List ℕ → List ℕ
 over text old = text ++ drop (length text) old
+
+-- the text is written at the front of a buffer, and n bytes long
+abbrev pub Written : List ℕ → ℕ → List ℕ → List ℕ → Type 0
+Written text n old new = (n ≡ length text) × (new ≡ over text old)

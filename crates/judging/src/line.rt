@@ -1,14 +1,13 @@
 ghost use Rattle.std.specs.Prelude.{◌≡◌, ◌<◌, ◌≤◌, List, [], ◌∷◌, length, IfOk, if◌then◌else◌, Ok, Err, nat_lt};
 ghost use Rattle.framing.specs.Framed.{framed};
-ghost use Rattle.judging.specs.Lines.{line_number, refused_text, line_of, over};
+ghost use Rattle.judging.specs.Lines.{line_number, refused_text, line_of, over, Written};
 ghost use Rattle.judging.specs.Outcomes.{input_judged, scratch_of};
 ghost use Rattle.judging.specs.declared.line.LineFault.TheVariants.{Room};
 
 use crate::fault::JudgeFault;
 use crate::judge::judge_input;
 
-// Room for the longest line. Clauses write the 12 out and ask for it as a length: an array would ask it of callers,
-// who are refused instead.
+// Room for the longest line, as a length: an array would ask it of callers, who are refused instead.
 pub const LINE_ROOM: usize = 12;
 
 // Why no line is written.
@@ -29,12 +28,11 @@ impl LineFault {
     }
 }
 
-// Writes a text at the front of the line, and gives its length. Bytes and not a formatter, which would need a writer
-// over the buffer; the length and the bytes have a clause each, as in `judge_line`.
+// Writes a text at the front of the line, and gives its length. Bytes and no `write!`, since each byte of the buffer
+// stands in the clauses.
 fn put(text: &[u8], line: &mut [u8]) -> usize
     requires { length text.now ≤ length line.old }
-    ensures len { result ≡ length text.now }
-    ensures line { line.new ≡ over text.now line.old }
+    ensures { Written text.now result line.old line.new }
 {
     let len = text.len();
     line[0..len].copy_from_slice(text);
@@ -45,9 +43,8 @@ fn put(text: &[u8], line: &mut [u8]) -> usize
 fn put_refusal(number: u8, line: &mut [u8]) -> usize
     requires number_bound { number < 100 }
     requires in_bounds { 12 ≤ length line.old }
-    ensures len { result ≡ length (refused_text number) }
+    ensures written { Written (refused_text number) result line.old line.new }
     ensures short { result ≤ 12 }
-    ensures line { line.new ≡ over (refused_text number) line.old }
 {
     let start = put(b"refused ", line);
     let ones = b'0' + number % 10;
@@ -60,9 +57,8 @@ fn put_refusal(number: u8, line: &mut [u8]) -> usize
 
 fn put_outcome(outcome: Result<bool, JudgeFault>, line: &mut [u8]) -> usize
     requires { 12 ≤ length line.old }
-    ensures len { result ≡ length (line_of outcome) }
+    ensures written { Written (line_of outcome) result line.old line.new }
     ensures short { result ≤ 12 }
-    ensures line { line.new ≡ over (line_of outcome) line.old }
 {
     match outcome {
         Ok(true) => put(b"yes\n", line),

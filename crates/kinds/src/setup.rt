@@ -4,6 +4,7 @@ ghost use Rattle.chains.specs.Chains.{fair};
 ghost use Rattle.chains.specs.Settings.{PrecedesHas, RespondsHas};
 ghost use Rattle.encoders.specs.Settings.{HasWidth};
 ghost use Rattle.patterns.specs.Places.{throughout as throughout_by, counted};
+ghost use Rattle.rules.specs.Conditions.{IsCondition};
 ghost use Rattle.rules.specs.Settings.{IsFreshPattern, IsFreshScope, SetUp};
 ghost use Rattle.scopes.specs.Marks.{side_mark, between_mark};
 
@@ -30,7 +31,7 @@ pub fn letters(width: u8) -> Result<Letters, SettingRefusal>
 
 // Before or after a condition.
 pub fn side<const AFTER: bool>(condition: u8) -> Result<Side<AFTER>, SettingRefusal>
-    ensures { SetUp result (condition < 16) (λ x. IsFreshScope ⟦<Side<AFTER> as Scope>⟧ x (side_mark AFTER condition) AFTER) }
+    ensures { SetUp result (IsCondition condition) (λ x. IsFreshScope ⟦<Side<AFTER> as Scope>⟧ x (side_mark AFTER condition) AFTER) }
 {
     let mut scope = Side::new();
     scope.set_condition(condition)?;
@@ -42,7 +43,7 @@ pub fn span<const UNCLOSED: bool>(
     opening: u8,
     closing: u8,
 ) -> Result<Span<UNCLOSED>, SettingRefusal>
-    ensures { SetUp result ((opening < 16) × (closing < 16)) (λ x. IsFreshScope ⟦<Span<UNCLOSED> as Scope>⟧ x (between_mark opening closing) UNCLOSED) }
+    ensures { SetUp result (IsCondition opening × IsCondition closing) (λ x. IsFreshScope ⟦<Span<UNCLOSED> as Scope>⟧ x (between_mark opening closing) UNCLOSED) }
 {
     let mut scope = Span::new();
     scope.set_conditions(opening, closing)?;
@@ -51,7 +52,7 @@ pub fn span<const UNCLOSED: bool>(
 
 // Always a condition, or never.
 pub fn throughout<const HELD: bool>(condition: u8) -> Result<Throughout<HELD>, SettingRefusal>
-    ensures { SetUp result (condition < 16) (λ x. IsFreshPattern ⟦<Throughout<HELD> as Pattern>⟧ x (throughout_by HELD condition)) }
+    ensures { SetUp result (IsCondition condition) (λ x. IsFreshPattern ⟦<Throughout<HELD> as Pattern>⟧ x (throughout_by HELD condition)) }
 {
     let mut pattern = Throughout::new();
     pattern.set_condition(condition)?;
@@ -64,7 +65,7 @@ pub fn counting<const RISES: bool>(
     condition: u8,
     times: u16,
 ) -> Result<Counting<RISES>, SettingRefusal>
-    ensures { SetUp result (condition < 16) (λ x. IsFreshPattern ⟦<Counting<RISES> as Pattern>⟧ x (counted RISES form condition times)) }
+    ensures { SetUp result (IsCondition condition) (λ x. IsFreshPattern ⟦<Counting<RISES> as Pattern>⟧ x (counted RISES form condition times)) }
 {
     let mut pattern = Counting::new(form);
     pattern.set_condition(condition)?;

@@ -3,6 +3,7 @@
 ghost use Rattle.std.specs.Prelude.{◌≡◌, ◌<◌, ℕ, List, ◌∷◌, OnOk};
 ghost use Rattle.patterns.specs.Places.{counted};
 ghost use Rattle.patterns.specs.Quotas.{Set, accepted, counted_rest};
+ghost use Rattle.rules.specs.Conditions.{IsCondition};
 ghost use Rattle.rules.specs.Settings.{IsFreshPattern, TakesIfFits};
 
 use crate::counter::Counter;
@@ -40,7 +41,7 @@ impl<const RISES: bool> Counting<RISES> {
 
     // Takes the condition by its number, and starts.
     pub fn set_condition(&mut self, condition: u8) -> Result<(), SettingRefusal>
-        ensures settings { TakesIfFits result (condition < 16) self.old self.new (Set self.new.quota self.old.quota.form condition self.old.quota.times) }
+        ensures settings { TakesIfFits result (IsCondition condition) self.old self.new (Set self.new.quota self.old.quota.form condition self.old.quota.times) }
         ensures accepts { OnOk result (IsFreshPattern ⟦<Counting<RISES> as Pattern>⟧ self.new (counted RISES self.old.quota.form condition self.old.quota.times)) }
     {
         self.quota.condition = Condition::new(condition)?;

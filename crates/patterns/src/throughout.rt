@@ -1,5 +1,6 @@
 ghost use Rattle.std.specs.Prelude.{◌<◌, ◌&&◌};
 ghost use Rattle.patterns.specs.Places.{throughout};
+ghost use Rattle.rules.specs.Conditions.{IsCondition};
 ghost use Rattle.rules.specs.Settings.{IsFreshPattern, TakesIfFits};
 
 use rules::condition::Condition;
@@ -26,7 +27,7 @@ impl<const HELD: bool> Throughout<HELD> {
 
     // Takes the condition by its number, and starts.
     pub fn set_condition(&mut self, condition: u8) -> Result<(), SettingRefusal>
-        ensures { TakesIfFits result (condition < 16) self.old self.new (IsFreshPattern ⟦<Throughout<HELD> as Pattern>⟧ self.new (throughout HELD condition)) }
+        ensures { TakesIfFits result (IsCondition condition) self.old self.new (IsFreshPattern ⟦<Throughout<HELD> as Pattern>⟧ self.new (throughout HELD condition)) }
     {
         self.condition = Condition::new(condition)?;
         self.kept = true;

@@ -19,8 +19,12 @@ TakesIfFits result fits old new P = MatchResult result (λ _. fits × P) (λ e. 
 abbrev pub IsFreshPattern : {P : Type 0} → PatternGhosts P → P → (List ℕ → Bool) → Type 0
 IsFreshPattern ghosts p meaning = (ghosts.meaning p ≡ meaning) × (ghosts.rest p ≡ meaning)
 
--- a scope gives these marks and, after any list, this answer, and stands at the empty list
+-- a scope gives these marks and answers, and stands at the empty list
+abbrev pub MarksAfresh : {S : Type 0} → ScopeGhosts S → S → (List ℕ → ℕ → Mark) → (List ℕ → Bool) → Type 0
+MarksAfresh ghosts s marks answers =
+    ((ghosts.marks s ≡ marks) × (ghosts.answers s ≡ answers))
+    × ((ghosts.rest_marks s ≡ marks) × (ghosts.rest_answers s ≡ answers))
+
+-- the same of a scope with one answer, after any list
 abbrev pub IsFreshScope : {S : Type 0} → ScopeGhosts S → S → (List ℕ → ℕ → Mark) → Bool → Type 0
-IsFreshScope ghosts s marks answer =
-    ((ghosts.marks s ≡ marks) × (ghosts.answers s ≡ (λ l. answer)))
-    × ((ghosts.rest_marks s ≡ marks) × (ghosts.rest_answers s ≡ (λ l. answer)))
+IsFreshScope ghosts s marks answer = MarksAfresh ghosts s marks (λ l. answer)

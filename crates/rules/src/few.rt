@@ -10,7 +10,7 @@ pub struct Few<T, const N: usize> {
     ghost fits: { count ≤ N },
 }
 
-// A copy is the same value. No derive writes this for a struct with facts of its own.
+// A copy is the same value. No derive writes this for a generic struct with a fact of its own.
 impl<T: Copy, const N: usize> Clone for Few<T, N> {
     ghost is_clone = { λ x y. y ≡ x };
 

@@ -15,7 +15,7 @@ pub enum SampleRefusal {
 }
 
 // Reports and C callers know a refusal by its number. Each enum has a method for it and there is no trait, since
-// nothing takes a refusal of any enum.
+// nothing in the library takes a refusal of any enum.
 impl SampleRefusal {
     pub fn number(self) -> u8
         ensures { result ≡ sample_number self }
@@ -29,8 +29,8 @@ impl SampleRefusal {
     }
 }
 
-// Why a setting or a term is not taken. Each setter says in one clause what it does and that a refusal changes
-// nothing: what it does differs from kind to kind.
+// Why a setting or a term is not taken. That a refusal changes nothing stands beside what each setter does, which
+// differs from kind to kind: a name for the one without the other would be longer than `self.new ≡ self.old`.
 #[derive(Clone, Copy, PartialEq, Eq, Debug)]
 pub enum SettingRefusal {
     // a number of contacts, a width, a condition or a chain's length is out of range

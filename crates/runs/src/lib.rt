@@ -17,7 +17,7 @@ use std::alloc::{AllocError, Global};
 use watch::fault::{PlayFault, WatchFault};
 use watch::watch::Watch;
 
-// A call of a watch, with its bytes.
+// A call of a watch, with its bytes: data and no closure, since the run law is about any list of them.
 #[derive(Clone, Copy)]
 pub enum Call<'a> {
     Feed(&'a [u8]),
@@ -52,7 +52,7 @@ fn answer_one<E: Encoder, R: Pattern>(watch: &mut Watch<E, R>, call: Call<'_>) -
     }
 }
 
-// Makes the calls in their order. A loop, since each push may lack memory and each call changes the watch.
+// Makes the calls in their order. A loop, since each call changes the watch that the next is made on.
 fn answer_all<E: Encoder, R: Pattern>(
     heap: Global,
     watch: &mut Watch<E, R>,

@@ -1,4 +1,5 @@
 ghost use Rattle.std.specs.Prelude.{◌<◌};
+ghost use Rattle.rules.specs.Conditions.{IsCondition};
 ghost use Rattle.rules.specs.Settings.{IsFreshScope, TakesIfFits};
 ghost use Rattle.scopes.specs.Marks.{side_mark, side_mark_from};
 
@@ -28,7 +29,7 @@ impl<const AFTER: bool> Side<AFTER> {
 
     // Takes the condition by its number, and starts.
     pub fn set_condition(&mut self, condition: u8) -> Result<(), SettingRefusal>
-        ensures { TakesIfFits result (condition < 16) self.old self.new (IsFreshScope ⟦<Side<AFTER> as Scope>⟧ self.new (side_mark AFTER condition) AFTER) }
+        ensures { TakesIfFits result (IsCondition condition) self.old self.new (IsFreshScope ⟦<Side<AFTER> as Scope>⟧ self.new (side_mark AFTER condition) AFTER) }
     {
         self.condition = Condition::new(condition)?;
         self.seen = false;

@@ -1,4 +1,5 @@
 ghost use Rattle.std.specs.Prelude.{◌<◌};
+ghost use Rattle.rules.specs.Conditions.{IsCondition};
 ghost use Rattle.rules.specs.Settings.{IsFreshScope, TakesIfFits};
 ghost use Rattle.scopes.specs.Marks.{between_mark, between_mark_from};
 
@@ -29,7 +30,7 @@ impl<const UNCLOSED: bool> Span<UNCLOSED> {
 
     // Takes the two conditions by their numbers, and starts.
     pub fn set_conditions(&mut self, opening: u8, closing: u8) -> Result<(), SettingRefusal>
-        ensures { TakesIfFits result ((opening < 16) × (closing < 16)) self.old self.new (IsFreshScope ⟦<Span<UNCLOSED> as Scope>⟧ self.new (between_mark opening closing) UNCLOSED) }
+        ensures { TakesIfFits result (IsCondition opening × IsCondition closing) self.old self.new (IsFreshScope ⟦<Span<UNCLOSED> as Scope>⟧ self.new (between_mark opening closing) UNCLOSED) }
     {
         let opening = Condition::new(opening)?;
         let closing = Condition::new(closing)?;

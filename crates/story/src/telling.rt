@@ -6,7 +6,7 @@ use std::{fmt, io};
 use watch::fault::{PlayFault, WatchFault};
 use watch::watch::Watch;
 
-// A function and no `Display`: `bool` is not of this crate.
+// A function: a type of its own with `Display` would be longer and say no more.
 pub fn yes_or_no(kept: bool) -> &'static str {
     if kept { "yes" } else { "no" }
 }

@@ -1,12 +1,11 @@
 pub mod reading;
 
-ghost use Rattle.std.specs.Prelude.{◌≡◌};
+ghost use Rattle.rules.specs.Settings.{IsFreshPattern};
 ghost use Rattle.stranger.specs.Paired.{paired};
 
 use rules::pattern::Pattern;
 
 // Words in pairs: an even number of them.
-// What it says is spelled out: a stranger need know no name but the trait's.
 #[derive(Clone, Copy)]
 pub struct Pairs {
     odd: bool,
@@ -14,7 +13,7 @@ pub struct Pairs {
 
 impl Pairs {
     pub fn new() -> Pairs
-        ensures { (⟦<Pairs as Pattern>⟧.meaning result ≡ paired) × (⟦<Pairs as Pattern>⟧.rest result ≡ paired) }
+        ensures { IsFreshPattern ⟦<Pairs as Pattern>⟧ result paired }
     {
         Pairs { odd: false }
     }

@@ -35,7 +35,7 @@ fn examine(kind: Kind, bytes: &[u8]) -> Result<(), TableFault>
     if *n == 0 || *n > kind.most_states() {
         return Err(TableFault::States);
     }
-    let states = *n as usize; // by `as`, which the proofs compute through
+    let states = *n as usize; // by `as`: with `From` the answers did not check
     let Some((flags, [width, entries @ ..])) = rest.split_at_checked(states) else {
         return Err(TableFault::Length);
     };

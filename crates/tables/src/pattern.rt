@@ -6,7 +6,8 @@ ghost use Rattle.table_format.specs.Layout.{is_pattern, states_of};
 
 use crate::walk::Walk;
 
-// A pattern that a pattern table gives: it stands in one of the table's states.
+// A pattern that a pattern table gives: it stands in one of the table's states. Apart from `TableScope`, which is of
+// another trait: all else is `Walk`'s.
 #[derive(Clone, Copy)]
 pub struct TablePattern<'a> {
     walk: Walk<'a>,

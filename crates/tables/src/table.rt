@@ -16,7 +16,7 @@ static MARK_ALL_IN: [u8; 4] = [1, 1, 0, 64];
 // definitions of the format are: a `Model` would be a second name for them.
 #[derive(Clone, Copy)]
 pub struct Table<'a> {
-    // a value and not a parameter of the type, since callers choose it when the program runs
+    // a value and not a parameter of the type, since public calls take it as an argument
     kind: Kind,
     bytes: &'a [u8],
     // read off the bytes once, so that a word costs no shift: the number of states and the length of a row
@@ -124,7 +124,7 @@ impl<'a> Table<'a> {
         ensures value { result ≡ letter_of self.now.bytes.now word }
         ensures below { result < size_of self.now.bytes.now }
     {
-        word as usize & (self.size - 1) // by `as`, which the proof computes through
+        word as usize & (self.size - 1) // by `as`: with `From` the answer did not check
     }
 
     // The flag of a state that exists. This and `entry_of` give no `Option`, since it would never be `None`.

@@ -1,5 +1,6 @@
 ghost use Rattle.std.specs.Prelude.{◌≡◌, MatchResult};
 ghost use Rattle.std.specs.Result.{result_err};
+ghost use Rattle.rules.specs.Settings.{IsFreshPattern};
 ghost use Rattle.table_format.specs.Checked.{checked};
 ghost use Rattle.table_format.specs.Layout.{built_in, width_of};
 ghost use Rattle.tables.specs.Runs.{accepts};
@@ -26,7 +27,7 @@ impl<'a> TablePattern<'a> {
     // Checks the bytes, holds them in place of the table held, and starts. A refusal changes nothing.
     pub fn load(&mut self, bytes: &'a [u8]) -> Result<(), TableFault>
         ensures says { result_err result ≡ checked PatternKind bytes.now }
-        ensures holds { MatchResult result (λ _. (self.new.walk.table.bytes.now ≡ bytes.now) × (⟦<TablePattern<'a> as Pattern>⟧.meaning self.new ≡ accepts bytes.now) × (⟦<TablePattern<'a> as Pattern>⟧.rest self.new ≡ accepts bytes.now)) (λ _. self.new ≡ self.old) }
+        ensures holds { MatchResult result (λ _. (self.new.walk.table.bytes.now ≡ bytes.now) × IsFreshPattern ⟦<TablePattern<'a> as Pattern>⟧ self.new (accepts bytes.now)) (λ _. self.new ≡ self.old) }
     {
         self.walk = self.walk.load(bytes)?;
         Ok(())

@@ -1,5 +1,6 @@
 ghost use Rattle.std.specs.Prelude.{◌≡◌, MatchResult};
 ghost use Rattle.std.specs.Result.{result_err};
+ghost use Rattle.rules.specs.Settings.{MarksAfresh};
 ghost use Rattle.table_format.specs.Checked.{checked};
 ghost use Rattle.table_format.specs.Layout.{built_in};
 ghost use Rattle.tables.specs.Runs.{marks, says};
@@ -12,11 +13,9 @@ use table_format::fault::TableFault;
 use table_format::kind::Kind;
 
 impl<'a> TableScope<'a> {
-    // The scope of the built-in table, at its start. `IsFreshScope` does not say it: a table's answer depends on the
-    // list.
+    // The scope of the built-in table, at its start.
     pub fn new() -> TableScope<'a>
-        ensures marks { (⟦<TableScope<'a> as Scope>⟧.marks result ≡ marks (built_in ScopeKind)) × (⟦<TableScope<'a> as Scope>⟧.rest_marks result ≡ marks (built_in ScopeKind)) }
-        ensures answers { (⟦<TableScope<'a> as Scope>⟧.answers result ≡ says (built_in ScopeKind)) × (⟦<TableScope<'a> as Scope>⟧.rest_answers result ≡ says (built_in ScopeKind)) }
+        ensures { MarksAfresh ⟦<TableScope<'a> as Scope>⟧ result (marks (built_in ScopeKind)) (says (built_in ScopeKind)) }
     {
         TableScope {
             walk: Walk::new(Kind::Scope),
@@ -26,7 +25,7 @@ impl<'a> TableScope<'a> {
     // Checks the bytes, holds them in place of the table held, and starts. A refusal changes nothing.
     pub fn load(&mut self, bytes: &'a [u8]) -> Result<(), TableFault>
         ensures says { result_err result ≡ checked ScopeKind bytes.now }
-        ensures holds { MatchResult result (λ _. (⟦<TableScope<'a> as Scope>⟧.marks self.new ≡ marks bytes.now) × (⟦<TableScope<'a> as Scope>⟧.rest_marks self.new ≡ marks bytes.now) × (⟦<TableScope<'a> as Scope>⟧.answers self.new ≡ says bytes.now) × (⟦<TableScope<'a> as Scope>⟧.rest_answers self.new ≡ says bytes.now)) (λ _. self.new ≡ self.old) }
+        ensures holds { MatchResult result (λ _. MarksAfresh ⟦<TableScope<'a> as Scope>⟧ self.new (marks bytes.now) (says bytes.now)) (λ _. self.new ≡ self.old) }
     {
         self.walk = self.walk.load(bytes)?;
         Ok(())

@@ -19,6 +19,6 @@ returns c =
     let list = (playing (ghosts.codes c.new-watch.result.encoder) (ghosts.size c.new-watch.result.encoder) [] c.args.record.now).1 in
     let said = c.verdict.ensures list (played.after [] made.after) in
     judged c.args.table.now c.args.record.now _ _ ec es _ c.in_ok-play.field-0 c.verdict.result
-    (made.rule ∙ (λ i. accepts_over (c.new.ensures.0.0 i) (c.new.ensures.0.1 i) (loaded.1 i)))
+    (made.rule ∙ (λ i. accepts_over (c.new.ensures.0.0 i) (c.new.ensures.0.1 i) (loaded.1.0 i)))
     (played.answer [] made.after)
     (said ∙ (λ i. played.kept.1 i (words (ghosts.codes (played.kept.0 i)) list)))
