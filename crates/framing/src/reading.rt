@@ -14,3 +14,16 @@ pub fn read_input<R: Read + Drop>(heap: Global, input: R) -> io::Result<Vec<u8>>
     input.take(MOST_INPUT as u64 + 1).read_to_end(&mut bytes)?;
     Ok(bytes)
 }
+
+#[cfg(test)]
+mod tests {
+    use super::*;
+
+    // No clause can say that there is memory.
+    #[test]
+    fn reads_to_the_end(rt: HostRuntime) {
+        let bytes: &[u8] = &[0, 0, 0, 1, 7];
+        let input = read_input(rt.alloc(), bytes).expect(&rt, "no memory");
+        assert_eq!(rt; input.as_slice(), bytes);
+    }
+}
