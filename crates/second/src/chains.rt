@@ -13,7 +13,7 @@ pub fn spans(chain: &[u8], words: &[u16]) -> bool {
     if others.is_empty() {
         return rest.is_empty();
     }
-    // A loop and no `any`, in whose closure the function would call itself by two others.
+    // A loop and no `any`: called from its closure, the function would need two measures more to be shown ending.
     for at in 0..rest.len() {
         if spans(others, &rest[at..]) {
             return true;

@@ -7,6 +7,7 @@ use crate::table::Pair;
 use crate::watch::WatchText;
 use std::alloc::{AllocError, Global};
 
+// Written here once more: with the library's own numbers, a wrong one would go unseen.
 const MOST_INPUT: usize = 60_000;
 
 // How long the line's buffer must be.

@@ -38,6 +38,7 @@ impl Times {
 }
 
 // A pattern with its settings, in the words of the rules.
+// Eventually and Precisely apart, though much alike: each pattern that the rules name is a variant with that name.
 #[derive(Clone, Copy, Debug)]
 pub enum PatternText<'a> {
     Always(u8),

@@ -110,6 +110,7 @@ impl Stop {
     }
 }
 
+// By hand: thiserror would ask for texts, which nothing here prints.
 impl From<Refusal> for Stop {
     fn from(refusal: Refusal) -> Stop {
         Stop::Refused(refusal)

@@ -11,7 +11,7 @@ pub fn try_keeps(
     pattern: &PatternText<'_>,
     words: &[u16],
 ) -> Result<bool, AllocError> {
-    // Loops, since each cut needs memory, which may be missing: then `?` ends them.
+    // Loops: a chain of lists in lists would be no plainer.
     let mut stretches = vec![in heap; words]?;
     for scope in scopes {
         let mut cut = Vec::new(heap);

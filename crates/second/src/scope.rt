@@ -83,7 +83,7 @@ impl<'a> Text for ScopeText<'a> {
 
 impl<'a> ScopeText<'a> {
     // The judged stretches, found by trying all pairs of places.
-    // Two loops, since keeping what is found needs memory, which may be missing: then `?` ends them.
+    // Two loops: a chain of lists in lists would be no plainer.
     pub fn try_judged<'w>(
         &self,
         heap: Global,

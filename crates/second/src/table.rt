@@ -16,6 +16,7 @@ pub struct TableText<'a> {
     pub bytes: &'a [u8],
 }
 
+// 250, 8 and 6 are written here once more: with the library's own numbers, a wrong one would go unseen.
 impl TableKind {
     fn most_states(self) -> usize {
         match self {
@@ -144,6 +145,7 @@ pub struct Pair<'a> {
 }
 
 // A state of the composed table: a state of the scope with nothing open, one with a state of the pattern, or failed.
+// States of its own: of the library, this crate takes only the marks.
 #[derive(Clone, Copy)]
 enum State {
     Shut(usize),
@@ -181,6 +183,7 @@ impl<'a> Pair<'a> {
 
     // The composed states by their numbers: those of the scope in order, each with nothing open and then with each
     // state of the pattern, and failed after them.
+    // A loop: a chain of rows with one state before each and one after all would be no plainer.
     fn states(&self, heap: Global) -> Result<Vec<State>, AllocError> {
         let mut states = Vec::new(heap);
         for s in 0..self.scope.states() {
@@ -237,7 +240,7 @@ impl<'a> Pair<'a> {
     }
 
     // The composed table, state by state.
-    // Loops and no chain: a number that is no byte, or missing memory, ends them by `?`.
+    // Loops: each number may be no byte, and a chain of such rows would be no plainer.
     pub fn composed(&self, heap: Global, room: usize) -> Result<Vec<u8>, Stop> {
         self.check(room)?;
         let states = self.states(heap)?;
