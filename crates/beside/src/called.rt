@@ -2,8 +2,8 @@
 use crate::coded;
 use crate::dice::Dice;
 use crate::library::{AnyScope, encoder_of, pattern_of, scope_of};
-use crate::reply::{Replies, Reply};
-use crate::supply::{Drawn, PatternKind, ScopeKind, Supply};
+use crate::reply::Reply;
+use crate::supply::{Drawn, Supply};
 use crate::tally::{Family, Tally};
 use kinds::choice::Choice;
 use layer::over::Over;
@@ -26,6 +26,7 @@ pub enum Step {
     Verdict,
 }
 
+// The kinds alone, since the dice choose a kind before its values are drawn.
 #[derive(Clone, Copy)]
 enum StepKind {
     Feed,
@@ -52,13 +53,33 @@ pub struct Story {
     pub steps: Vec<Step>,
 }
 
-impl Step {
-    fn call(&self) -> Call<'_> {
-        match self {
+impl<'a> From<&'a Step> for Call<'a> {
+    fn from(step: &'a Step) -> Call<'a> {
+        match step {
             Step::Feed(sample) => Call::Feed(sample),
             Step::Play(record) => Call::Play(record),
             Step::NewRecord => Call::NewRecord,
             Step::Verdict => Call::Verdict,
+        }
+    }
+}
+
+impl Step {
+    // What the watch of the second implementation replies.
+    fn heard(
+        &self,
+        watch: &mut WatchText,
+        scopes: &[ScopeText<'_>],
+        pattern: &PatternText<'_>,
+    ) -> Result<Reply, AllocError> {
+        match self {
+            Step::Feed(sample) => Reply::heard(watch.feed(sample).map(Reply::Accepted)),
+            Step::Play(record) => Reply::heard(watch.play(record).map(Reply::Accepted)),
+            Step::NewRecord => {
+                watch.new_record();
+                Ok(Reply::Done)
+            }
+            Step::Verdict => Ok(Reply::Judged(watch.try_verdict(scopes, pattern)?)),
         }
     }
 
@@ -91,6 +112,7 @@ fn record(dice: &mut Dice, kind: CodingKind) -> Result<Vec<u8>, AllocError> {
     let heap = dice.heap;
     let mut record: Vec<u8> = (0..3).map(|_| u8::from(dice.one_in(60))).collect(heap)?;
     record.push(if wrong { dice.byte_below(8) } else { count })?;
+    // a loop: a sample is appended as its bytes, one or more
     for _ in 0..count {
         coded::push_sample(dice, kind, &mut record)?;
     }
@@ -111,6 +133,7 @@ fn sample(dice: &mut Dice, kind: CodingKind) -> Result<Vec<u8>, AllocError> {
 // What the library answered, as a reply.
 impl From<Answer> for Reply {
     fn from(answer: Answer) -> Reply {
+        // `as`: a usize holds every u32, and the library has no `From` for it
         match answer {
             Answer::Fed(answer) => Reply::of(answer.map(|count| Reply::Accepted(count as usize))),
             Answer::Played(answer) => Reply::of(answer.map(|count| Reply::Accepted(
@@ -137,12 +160,12 @@ impl<'a> Rule<'a> {
     fn any(dice: &mut Dice, supply: &'a Supply) -> Rule<'a> {
         let depth = dice.below(3);
         let kinds = [
-            ScopeKind::any(dice),
-            ScopeKind::any(dice),
-            ScopeKind::any(dice),
+            ScopeText::kind(dice),
+            ScopeText::kind(dice),
+            ScopeText::kind(dice),
         ];
         let [outer, middle, inner] = kinds.map(|kind| ScopeText::drawn(dice, supply, kind));
-        let pattern = PatternKind::any(dice);
+        let pattern = PatternText::kind(dice);
         Rule {
             outer,
             middle: if depth > 0 { Some(middle) } else { None },
@@ -177,7 +200,11 @@ impl Story {
 
     // What the library replies.
     pub fn ours(&self, heap: Global, rule: Rule<'_>) -> Result<Vec<Reply>, AllocError> {
-        let calls: Vec<Call<'_>> = self.steps.iter().map(|step| step.call()).collect(heap)?;
+        let calls: Vec<Call<'_>> = self
+            .steps
+            .iter()
+            .map(|step| Call::from(step))
+            .collect(heap)?;
         let encoder = encoder_of(self.kind, &self.settings);
         let inner = under(rule.inner, pattern_of(rule.pattern));
         let middle = under(rule.middle, inner);
@@ -190,7 +217,7 @@ impl Story {
 
     pub fn theirs(&self, heap: Global, rule: Rule<'_>) -> Result<Vec<Reply>, AllocError> {
         let mut coding = Coding::new(heap, self.kind);
-        // a loop: a refused setting is passed over, and missing memory ends the run
+        // a loop: each setting changes the coding, and a refused one is passed over
         for setting in self.settings.iter() {
             if let Err(stop) = coding.set(*setting) {
                 stop.refusal()?;
@@ -199,21 +226,10 @@ impl Story {
         let mut watch = WatchText::new(heap, coding);
         let scopes = rule.held_scopes(heap)?;
         let pattern = rule.pattern.held();
-        let mut replies = Vec::new(heap);
-        // a loop, since missing memory ends it by `?` in three of its arms
-        for step in self.steps.iter() {
-            let reply = match step {
-                Step::Feed(sample) => Reply::heard(watch.feed(sample).map(Reply::Accepted))?,
-                Step::Play(record) => Reply::heard(watch.play(record).map(Reply::Accepted))?,
-                Step::NewRecord => {
-                    watch.new_record();
-                    Reply::Done
-                }
-                Step::Verdict => Reply::Judged(watch.try_verdict(&scopes, &pattern)?),
-            };
-            replies.push(reply)?;
-        }
-        Ok(replies)
+        self.steps
+            .iter()
+            .map(|step| step.heard(&mut watch, &scopes, &pattern))
+            .try_collect(heap)
     }
 
     fn size(&self) -> usize {
@@ -233,11 +249,8 @@ pub fn compare(
 ) -> Result<(), AllocError> {
     let ours = story.ours(heap, rule)?;
     let theirs = story.theirs(heap, rule)?;
-    let both = Replies {
-        ours: &ours,
-        theirs: &theirs,
-    };
-    tally.hold(story.size(), both, format_args!("{story:?} under {rule:?}"))
+    let case = format_args!("{story:?} under {rule:?}");
+    tally.hold(story.size(), &ours, &theirs, case)
 }
 
 // One run of so many steps, made with both.

@@ -1,7 +1,7 @@
 // Encoders: settings, some of them refused, and then parts of records, some of them damaged.
 use crate::dice::Dice;
 use crate::library::{AnyEncoder, Settable, new_encoder};
-use crate::reply::{Refusal, Replies, Reply};
+use crate::reply::Reply;
 use crate::supply::Damage;
 use crate::tally::Family;
 use rules::encoder::Encoder;
@@ -138,13 +138,11 @@ fn part(dice: &mut Dice, kind: CodingKind) -> Result<Vec<u8>, AllocError> {
 fn replies<E: Asked + Drop>(heap: Global, new: E, case: &Case) -> Result<Vec<Reply>, AllocError> {
     let mut encoder = new;
     let mut replies = Vec::new(heap);
-    // loops, since missing memory ends them by `?`
+    // a loop: each setting changes the encoder that takes the next one
     for setting in case.settings.iter() {
         replies.push(encoder.set(*setting)?)?;
     }
-    for part in case.parts.iter() {
-        replies.push(encoder.ask(part))?;
-    }
+    replies.extend(case.parts.iter().map(|part| encoder.ask(part)))?;
     Ok(replies)
 }
 
@@ -163,11 +161,8 @@ pub fn compare(family: &mut Family) -> Result<(), AllocError> {
     };
     let ours = replies(heap, new_encoder(kind), &case)?;
     let theirs = replies(heap, Coding::new(heap, kind), &case)?;
-    let both = Replies {
-        ours: &ours,
-        theirs: &theirs,
-    };
+    let words = format_args!("{case:?}");
     family
         .tally
-        .hold(case.settings.len(), both, format_args!("{case:?}"))
+        .hold(case.settings.len(), &ours, &theirs, words)
 }

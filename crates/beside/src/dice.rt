@@ -39,6 +39,7 @@ impl Dice {
     // Each choice as often in n as the number before it says, and the last one otherwise.
     pub fn choose<T: Copy>(&mut self, n: usize, choices: &[(usize, T)], last: T) -> T {
         let mut left = self.below(n);
+        // a loop: each choice takes its times off what is left of the roll
         for (times, choice) in choices {
             if left < *times {
                 return *choice;

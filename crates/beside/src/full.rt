@@ -1,7 +1,7 @@
 // A watch that comes to its limit: records that are played up to it and past it.
 use crate::called::{Rule, Step, Story, compare};
 use crate::tally::Tally;
-use second::coding::CodingKind;
+use second::coding::{Coding, CodingKind};
 use second::pattern::PatternText;
 use second::scope::ScopeText;
 use std::alloc::{AllocError, Global};
@@ -42,10 +42,7 @@ fn steps(heap: Global, size: usize, left: usize) -> Result<Vec<Step>, AllocError
 }
 
 fn story(heap: Global, kind: CodingKind, left: usize) -> Result<Story, AllocError> {
-    let size = match kind {
-        CodingKind::Events => 3,
-        _ => 1,
-    };
+    let size = Coding::new(heap, kind).size();
     Ok(Story {
         kind,
         settings: Vec::new(heap),

@@ -7,15 +7,19 @@ use encoders::letters::Letters;
 use encoders::moisture::Moisture;
 use kinds::choice::Choice;
 use patterns::always::Always;
+use patterns::counting::Counting;
 use patterns::eventually::Eventually;
 use patterns::form::Form;
 use patterns::never::Never;
 use patterns::precisely::Precisely;
+use patterns::throughout::Throughout;
 use scopes::after::After;
 use scopes::after_unless::AfterUnless;
 use scopes::before::Before;
 use scopes::between::Between;
 use scopes::globally::Globally;
+use scopes::side::Side;
+use scopes::span::Span;
 use second::coding::{CodingKind, Setting};
 use second::pattern::{PatternText, Times};
 use second::scope::ScopeText;
@@ -62,7 +66,8 @@ impl<T, A: Settable<T>, B: Settable<T>> Settable<T> for Choice<A, B> {
     }
 }
 
-// Each kind takes the texts of its own kind: the impls differ in a variant and a call, for which no parameter stands.
+// Each kind is given texts of its own kind alone. Kinds that one parameter tells apart share an impl; the impls that
+// remain differ in a variant and a call.
 impl Settable<Setting> for Contacts {
     fn set(&mut self, text: Setting) -> Result<(), Refusal> {
         match text {
@@ -117,36 +122,18 @@ impl<'a> Settable<ScopeText<'a>> for Globally {
     }
 }
 
-impl<'a> Settable<ScopeText<'a>> for Before {
+impl<'a, const AFTER: bool> Settable<ScopeText<'a>> for Side<AFTER> {
     fn set(&mut self, text: ScopeText<'a>) -> Result<(), Refusal> {
-        if let ScopeText::Before(c) = text {
+        if let ScopeText::Before(c) | ScopeText::After(c) = text {
             self.set_condition(c)?;
         }
         Ok(())
     }
 }
 
-impl<'a> Settable<ScopeText<'a>> for After {
+impl<'a, const UNCLOSED: bool> Settable<ScopeText<'a>> for Span<UNCLOSED> {
     fn set(&mut self, text: ScopeText<'a>) -> Result<(), Refusal> {
-        if let ScopeText::After(c) = text {
-            self.set_condition(c)?;
-        }
-        Ok(())
-    }
-}
-
-impl<'a> Settable<ScopeText<'a>> for Between {
-    fn set(&mut self, text: ScopeText<'a>) -> Result<(), Refusal> {
-        if let ScopeText::Between(q, r) = text {
-            self.set_conditions(q, r)?;
-        }
-        Ok(())
-    }
-}
-
-impl<'a> Settable<ScopeText<'a>> for AfterUnless {
-    fn set(&mut self, text: ScopeText<'a>) -> Result<(), Refusal> {
-        if let ScopeText::AfterUnless(q, r) = text {
+        if let ScopeText::Between(q, r) | ScopeText::AfterUnless(q, r) = text {
             self.set_conditions(q, r)?;
         }
         Ok(())
@@ -189,37 +176,18 @@ fn form_of(times: Times) -> Form {
     }
 }
 
-impl<'a> Settable<PatternText<'a>> for Always {
+impl<'a, const HELD: bool> Settable<PatternText<'a>> for Throughout<HELD> {
     fn set(&mut self, text: PatternText<'a>) -> Result<(), Refusal> {
-        if let PatternText::Always(c) = text {
+        if let PatternText::Always(c) | PatternText::Never(c) = text {
             self.set_condition(c)?;
         }
         Ok(())
     }
 }
 
-impl<'a> Settable<PatternText<'a>> for Never {
+impl<'a, const RISES: bool> Settable<PatternText<'a>> for Counting<RISES> {
     fn set(&mut self, text: PatternText<'a>) -> Result<(), Refusal> {
-        if let PatternText::Never(c) = text {
-            self.set_condition(c)?;
-        }
-        Ok(())
-    }
-}
-
-impl<'a> Settable<PatternText<'a>> for Eventually {
-    fn set(&mut self, text: PatternText<'a>) -> Result<(), Refusal> {
-        if let PatternText::Eventually(times, c) = text {
-            self.set_times(times.number);
-            self.set_condition(c)?;
-        }
-        Ok(())
-    }
-}
-
-impl<'a> Settable<PatternText<'a>> for Precisely {
-    fn set(&mut self, text: PatternText<'a>) -> Result<(), Refusal> {
-        if let PatternText::Precisely(times, c) = text {
+        if let PatternText::Eventually(times, c) | PatternText::Precisely(times, c) = text {
             self.set_times(times.number);
             self.set_condition(c)?;
         }

@@ -4,7 +4,6 @@ use rules::mark::Mark;
 use rules::refusal::{SampleRefusal, SettingRefusal};
 use second::refusal::{Stop, Why};
 use std::alloc::AllocError;
-use std::fmt;
 use table_format::fault::TableFault;
 use watch::fault::{PlayFault, WatchFault};
 
@@ -26,19 +25,6 @@ pub enum Reply {
     Marked(Mark),
     Refused(Refusal),
     Judged(bool),
-}
-
-// What both sides replied in a case.
-#[derive(Clone, Copy)]
-pub struct Replies<'a> {
-    pub ours: &'a [Reply],
-    pub theirs: &'a [Reply],
-}
-
-impl fmt::Display for Replies<'_> {
-    fn fmt<W: fmt::Write>(&self, f: &mut fmt::Formatter<W>) -> fmt::Result {
-        write!(f, "{:?}, not {:?}", self.ours, self.theirs)
-    }
 }
 
 impl Reply {
@@ -69,6 +55,7 @@ impl Refusal {
     }
 }
 
+// One `From` for each fault: a blanket one would overlap `From<Refusal>`.
 impl From<Why> for Refusal {
     fn from(why: Why) -> Refusal {
         Refusal::new(why.number())
@@ -127,6 +114,7 @@ impl From<LineFault> for Refusal {
 
 impl From<WatchFault> for Refusal {
     fn from(fault: WatchFault) -> Refusal {
+        // `as`: a usize holds every u32, and the library has no `From` for it
         Refusal {
             count: Some(fault.count as usize),
             ..Refusal::new(fault.number())

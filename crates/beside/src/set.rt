@@ -1,8 +1,8 @@
 // Scopes and patterns by themselves: settings, some of them refused, between words, and starts.
 use crate::dice::Dice;
 use crate::library::{AnyPattern, AnyScope, Settable, new_pattern, new_scope};
-use crate::reply::{Refusal, Replies, Reply};
-use crate::supply::{Drawn, PatternKind, ScopeKind, Supply};
+use crate::reply::{Refusal, Reply};
+use crate::supply::{Drawn, Supply};
 use crate::tally::Family;
 use rules::mark::Mark;
 use rules::pattern::Pattern;
@@ -21,6 +21,7 @@ enum Move<T> {
     Start,
 }
 
+// The kinds alone, since the dice choose a kind before its values are drawn.
 #[derive(Clone, Copy)]
 enum MoveKind {
     Set,
@@ -30,6 +31,9 @@ enum MoveKind {
 
 // A scope or a pattern of either side.
 trait Subject<T>: Settable<T> {
+    // A new one of the text's kind.
+    fn new(heap: Global, text: T) -> Self;
+
     fn start(&mut self);
 
     // Reads a word, and gives its mark, where words are marked.
@@ -40,6 +44,10 @@ trait Subject<T>: Settable<T> {
 }
 
 impl<'a> Subject<PatternText<'a>> for AnyPattern<'a> {
+    fn new(_heap: Global, text: PatternText<'a>) -> AnyPattern<'a> {
+        new_pattern(text)
+    }
+
     fn start(&mut self) {
         Pattern::start(self);
     }
@@ -55,6 +63,10 @@ impl<'a> Subject<PatternText<'a>> for AnyPattern<'a> {
 }
 
 impl<'a> Subject<ScopeText<'a>> for AnyScope<'a> {
+    fn new(_heap: Global, text: ScopeText<'a>) -> AnyScope<'a> {
+        new_scope(text)
+    }
+
     fn start(&mut self) {
         Scope::start(self);
     }
@@ -75,6 +87,10 @@ impl<T: Text> Settable<T> for Reader<T> {
 }
 
 impl<T: Text> Subject<T> for Reader<T> {
+    fn new(heap: Global, text: T) -> Reader<T> {
+        Reader::new(heap, text)
+    }
+
     fn start(&mut self) {
         Reader::start(self);
     }
@@ -88,14 +104,15 @@ impl<T: Text> Subject<T> for Reader<T> {
     }
 }
 
-// The replies to a setting and to a word, and what is said after each move.
+// The replies of a new subject to a setting and to a word, and what is said after each move.
 fn replies<T: Copy, S: Subject<T> + Drop>(
     heap: Global,
-    new: S,
+    new: T,
     moves: &[Move<T>],
 ) -> Result<Vec<Reply>, AllocError> {
-    let mut subject = new;
+    let mut subject = S::new(heap, new);
     let mut replies = Vec::new(heap);
+    // a loop: a move gives one or two replies, and changes the subject of the next one
     for made in moves {
         match *made {
             Move::Set(text) => {
@@ -109,13 +126,11 @@ fn replies<T: Copy, S: Subject<T> + Drop>(
     Ok(replies)
 }
 
-// A word mostly, and now and then a setting or a start.
-fn move_of<T: Copy>(dice: &mut Dice, text: T) -> Move<T> {
-    match dice.choose(
-        12,
-        &[(1, MoveKind::Start), (3, MoveKind::Set)],
-        MoveKind::Read,
-    ) {
+// A word mostly, and now and then a setting of the kind or a start.
+fn move_of<'a, T: Drawn<'a>>(dice: &mut Dice, supply: &'a Supply, kind: T::Kind) -> Move<T> {
+    let text = T::drawn(dice, supply, kind);
+    let choices = [(1, MoveKind::Start), (3, MoveKind::Set)];
+    match dice.choose(12, &choices, MoveKind::Read) {
         MoveKind::Start => Move::Start,
         MoveKind::Set => Move::Set(text),
         MoveKind::Read => Move::Read(dice.word()),
@@ -126,37 +141,28 @@ fn move_of<T: Copy>(dice: &mut Dice, text: T) -> Move<T> {
 fn compare<'a, T: Drawn<'a> + Debug, S: Subject<T> + Drop>(
     family: &mut Family,
     supply: &'a Supply,
-    kind: T::Kind,
-    new: T,
-    subject: S,
 ) -> Result<(), AllocError> {
     let heap = family.dice.heap;
+    let kind = T::kind(&mut family.dice);
+    let new = T::drawn(&mut family.dice, supply, kind).unset();
     let mut moves = Vec::new(heap);
+    // a loop: no closure can take along a value of an associated type, as the kind is
     for _ in 0..family.dice.below(14) {
-        let text = T::drawn(&mut family.dice, supply, kind);
-        moves.push(move_of(&mut family.dice, text))?;
+        moves.push(move_of(&mut family.dice, supply, kind))?;
     }
-    let ours = replies(heap, subject, &moves)?;
-    let theirs = replies(heap, Reader::new(heap, new), &moves)?;
-    let both = Replies {
-        ours: &ours,
-        theirs: &theirs,
-    };
-    family
-        .tally
-        .hold(moves.len(), both, format_args!("{new:?} by {moves:?}"))
+    let ours = replies::<T, S>(heap, new, &moves)?;
+    let theirs = replies::<T, Reader<T>>(heap, new, &moves)?;
+    let case = format_args!("{new:?} by {moves:?}");
+    family.tally.hold(moves.len(), &ours, &theirs, case)
 }
 
+// Here and below the supply is made apart from `compare`, since the texts there borrow from it.
 pub fn compare_pattern(family: &mut Family) -> Result<(), AllocError> {
     let supply = Supply::new(&mut family.dice)?;
-    let kind = PatternKind::any(&mut family.dice);
-    let new = PatternText::drawn(&mut family.dice, &supply, kind).unset();
-    compare(family, &supply, kind, new, new_pattern(new))
+    compare::<PatternText<'_>, AnyPattern<'_>>(family, &supply)
 }
 
 pub fn compare_scope(family: &mut Family) -> Result<(), AllocError> {
     let supply = Supply::new(&mut family.dice)?;
-    let kind = ScopeKind::any(&mut family.dice);
-    let new = ScopeText::drawn(&mut family.dice, &supply, kind).unset();
-    compare(family, &supply, kind, new, new_scope(new))
+    compare::<ScopeText<'_>, AnyScope<'_>>(family, &supply)
 }

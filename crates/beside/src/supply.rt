@@ -6,6 +6,7 @@ use second::table::{TableKind, TableText};
 use second::text::Text;
 use std::alloc::AllocError;
 
+// The kinds alone, here and of patterns, since the dice choose a kind before its values are drawn.
 #[derive(Clone, Copy)]
 pub enum ScopeKind {
     Globally,
@@ -51,38 +52,15 @@ pub struct Supply {
 }
 
 // A text that speaks of the bytes of its case.
+// A trait and no closures: what is drawn goes with the type of the text.
 pub trait Drawn<'a>: Text {
     type Kind: Copy;
 
+    // Any kind.
+    fn kind(dice: &mut Dice) -> Self::Kind;
+
     // One of the kind, with settings that may be refused.
     fn drawn(dice: &mut Dice, supply: &'a Supply, kind: Self::Kind) -> Self;
-}
-
-impl ScopeKind {
-    pub fn any(dice: &mut Dice) -> ScopeKind {
-        let choices = [
-            (1, ScopeKind::Globally),
-            (1, ScopeKind::Before),
-            (1, ScopeKind::After),
-            (2, ScopeKind::Between),
-            (1, ScopeKind::AfterUnless),
-        ];
-        dice.choose(8, &choices, ScopeKind::Table)
-    }
-}
-
-impl PatternKind {
-    pub fn any(dice: &mut Dice) -> PatternKind {
-        let choices = [
-            (1, PatternKind::Always),
-            (1, PatternKind::Never),
-            (1, PatternKind::Eventually),
-            (1, PatternKind::Precisely),
-            (2, PatternKind::Precedes),
-            (2, PatternKind::Responds),
-        ];
-        dice.choose(9, &choices, PatternKind::Table)
-    }
 }
 
 impl Damage {
@@ -168,6 +146,17 @@ impl Supply {
 impl<'a> Drawn<'a> for ScopeText<'a> {
     type Kind = ScopeKind;
 
+    fn kind(dice: &mut Dice) -> ScopeKind {
+        let choices = [
+            (1, ScopeKind::Globally),
+            (1, ScopeKind::Before),
+            (1, ScopeKind::After),
+            (2, ScopeKind::Between),
+            (1, ScopeKind::AfterUnless),
+        ];
+        dice.choose(8, &choices, ScopeKind::Table)
+    }
+
     fn drawn(dice: &mut Dice, supply: &'a Supply, kind: ScopeKind) -> ScopeText<'a> {
         let q = dice.condition();
         let r = dice.condition();
@@ -187,6 +176,18 @@ impl<'a> Drawn<'a> for ScopeText<'a> {
 
 impl<'a> Drawn<'a> for PatternText<'a> {
     type Kind = PatternKind;
+
+    fn kind(dice: &mut Dice) -> PatternKind {
+        let choices = [
+            (1, PatternKind::Always),
+            (1, PatternKind::Never),
+            (1, PatternKind::Eventually),
+            (1, PatternKind::Precisely),
+            (2, PatternKind::Precedes),
+            (2, PatternKind::Responds),
+        ];
+        dice.choose(9, &choices, PatternKind::Table)
+    }
 
     fn drawn(dice: &mut Dice, supply: &'a Supply, kind: PatternKind) -> PatternText<'a> {
         let c = dice.condition();

@@ -1,6 +1,6 @@
 // Tables: checking them, composing them into buffers of all lengths, and judging whole inputs.
 use crate::dice::Dice;
-use crate::reply::{Replies, Reply};
+use crate::reply::Reply;
 use crate::supply::table;
 use crate::tally::Family;
 use composing::compose::compose;
@@ -19,6 +19,7 @@ struct Tables {
 }
 
 // How a buffer's length stands to what is needed.
+// Chosen before its number is drawn: only the length that is chosen draws one.
 #[derive(Clone, Copy)]
 enum Length {
     Exact,
@@ -68,6 +69,7 @@ impl Tables {
     }
 
     // How long a composed table is, where the tables compose.
+    // The remainders keep the numbers of damaged tables within those of the format.
     fn composed_length(&self) -> usize {
         let pair = self.pair();
         let states = pair.composed_states() % 251;
@@ -137,12 +139,8 @@ pub fn check_both(family: &mut Family) -> Result<(), AllocError> {
         check_theirs(p, &tables.pattern),
         check_theirs(s, &tables.scope),
     ];
-    let both = Replies {
-        ours: &ours,
-        theirs: &theirs,
-    };
     let case = format_args!("kinds swapped {swapped}, checked {tables:?}");
-    family.tally.hold(tables.size(), both, case)
+    family.tally.hold(tables.size(), &ours, &theirs, case)
 }
 
 fn composed_ours(heap: Global, tables: &Tables, length: usize) -> Result<Composed, AllocError> {
@@ -173,12 +171,8 @@ pub fn compose_both(family: &mut Family) -> Result<(), AllocError> {
     let expected = composed_theirs(heap, tables.pair(), length)?;
     let ours = [composed.reply, bytes_reply(&composed.out, &expected.out)];
     let theirs = [expected.reply, Reply::Done];
-    let both = Replies {
-        ours: &ours,
-        theirs: &theirs,
-    };
     let case = format_args!("{tables:?} in {length}");
-    family.tally.hold(tables.size(), both, case)
+    family.tally.hold(tables.size(), &ours, &theirs, case)
 }
 
 // Appends bytes behind their length, which is wrong now and then.
@@ -257,10 +251,6 @@ pub fn judge_both(family: &mut Family) -> Result<(), AllocError> {
         bytes_reply(&lined.scratch, &expected.scratch),
     ];
     let theirs = [expected.reply, Reply::Done, Reply::Done];
-    let both = Replies {
-        ours: &ours,
-        theirs: &theirs,
-    };
     let case = format_args!("{input:?} wrote {:?}", lined.line);
-    family.tally.hold(input.len(), both, case)
+    family.tally.hold(input.len(), &ours, &theirs, case)
 }

@@ -1,5 +1,5 @@
 use crate::dice::Dice;
-use crate::reply::{Replies, Reply};
+use crate::reply::Reply;
 use std::alloc::{AllocError, Global};
 use std::fmt;
 
@@ -65,19 +65,20 @@ impl Tally {
     pub fn hold<C: fmt::Display + Drop>(
         &mut self,
         size: usize,
-        replies: Replies<'_>,
+        ours: &[Reply],
+        theirs: &[Reply],
         case: C,
     ) -> Result<(), AllocError> {
         raise(&mut self.counts.cases);
-        for reply in replies.theirs {
+        for reply in theirs {
             self.counts.add(*reply);
         }
-        if replies.ours == replies.theirs {
+        if ours == theirs {
             return Ok(());
         }
         raise(&mut self.counts.differing);
         if self.is_smallest(size) {
-            let text = format!(in self.heap; "{case}: {replies}")?;
+            let text = format!(in self.heap; "{case}: {ours:?}, not {theirs:?}")?;
             self.smallest = Some(Difference { size, text });
         }
         Ok(())

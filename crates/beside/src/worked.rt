@@ -1,6 +1,6 @@
 // Worked examples with their known outcomes, put to both.
 use crate::called::{Rule, Step, Story};
-use crate::reply::{Replies, Reply};
+use crate::reply::Reply;
 use crate::tally::Tally;
 use second::coding::{CodingKind, Setting};
 use second::pattern::{Form, PatternText, Times};
@@ -121,11 +121,7 @@ fn compare(heap: Global, example: &Example, tally: &mut Tally) -> Result<(), All
         Reply::Judged(example.kept),
     ];
     for replies in [story.ours(heap, rule)?, story.theirs(heap, rule)?] {
-        let both = Replies {
-            ours: &replies,
-            theirs: &known,
-        };
-        tally.hold(0, both, "a worked example")?;
+        tally.hold(0, &replies, &known, "a worked example")?;
     }
     Ok(())
 }
