@@ -200,11 +200,7 @@ impl Story {
 
     // What the library replies.
     pub fn ours(&self, heap: Global, rule: Rule<'_>) -> Result<Vec<Reply>, AllocError> {
-        let calls: Vec<Call<'_>> = self
-            .steps
-            .iter()
-            .map(|step| Call::from(step))
-            .collect(heap)?;
+        let calls: Vec<Call<'_>> = self.steps.iter().map(Call::from).collect(heap)?;
         let encoder = encoder_of(self.kind, &self.settings);
         let inner = under(rule.inner, pattern_of(rule.pattern));
         let middle = under(rule.middle, inner);

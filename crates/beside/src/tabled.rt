@@ -19,7 +19,7 @@ struct Tables {
 }
 
 // How a buffer's length stands to what is needed.
-// Chosen before its number is drawn: only the length that is chosen draws one.
+// The kinds of lengths alone: only the length that is chosen is drawn.
 #[derive(Clone, Copy)]
 enum Length {
     Exact,
