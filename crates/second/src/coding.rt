@@ -176,7 +176,7 @@ impl Coding {
         }
     }
 
-    // Takes a setting of its kind.
+    // Takes a setting of its kind; one of another kind changes nothing.
     pub fn set(&mut self, setting: Setting) -> Result<(), Stop> {
         match self {
             Coding::Contacts { contacts, terms } => match setting {
