@@ -49,9 +49,7 @@ impl<T: Term> Conditions<T> {
         ensures { MatchResult result (λ _. (full (slice_index_or (lists_of self.old) condition.number []) ≡ false) × (lists_of self.new ≡ with_term condition.number term (lists_of self.old))) (λ e. (full (slice_index_or (lists_of self.old) condition.number []) ≡ true) × (e ≡ Full) × (self.new ≡ self.old)) }
     {
         let i = usize::from(condition.number());
-        let mut terms = self.lists[i];
-        terms.push(term).map_err(|_| SettingRefusal::Full)?;
-        self.lists[i] = terms;
+        self.lists[i].push(term).map_err(|_| SettingRefusal::Full)?;
         Ok(())
     }
 
