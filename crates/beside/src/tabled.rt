@@ -5,7 +5,7 @@ use crate::supply::table;
 use crate::tally::Family;
 use composing::compose::compose;
 use judging::line::judge_line;
-use second::line::{Room, judged};
+use second::line::{Room, try_judged};
 use second::table::{Pair, TableKind, TableText};
 use std::alloc::{AllocError, Global};
 use table_format::check::check;
@@ -221,7 +221,7 @@ fn lined_ours(heap: Global, input: &[u8], room: Room) -> Result<Lined, AllocErro
 }
 
 fn lined_theirs(heap: Global, input: &[u8], room: Room) -> Result<Lined, AllocError> {
-    match judged(heap, input, room) {
+    match try_judged(heap, input, room) {
         Ok(left) => Ok(Lined {
             reply: Reply::Accepted(left.text.len()),
             line: written(heap, left.text.as_bytes(), room.line)?,

@@ -58,19 +58,15 @@ pub enum CodingKind {
     Letters,
 }
 
-// An encoder, with its terms in the order in which they came: a list for each condition is the library's way.
+// An encoder: its kind, and all that was set, in the order in which it came. A list of terms for each condition is the
+// library's way. No enum with values: a setting of another kind is refused by what was set before it.
 #[derive(Drop)]
-pub enum Coding {
-    Contacts {
-        contacts: u8,
-        terms: Vec<Term<ContactAsk>>,
-    },
-    Events {
-        terms: Vec<Term<EventAsk>>,
-    },
-    Letters {
-        width: u8,
-    },
+pub struct Coding {
+    pub kind: CodingKind,
+    contacts: u8,
+    width: u8,
+    contact_terms: Vec<Term<ContactAsk>>,
+    event_terms: Vec<Term<EventAsk>>,
 }
 
 fn contact(byte: u8, k: u8) -> bool {
@@ -157,72 +153,61 @@ fn word_of<T: Ask>(terms: &[Term<T>], sample: T::Sample) -> u16 {
 
 impl Coding {
     pub fn new(heap: Global, kind: CodingKind) -> Coding {
-        match kind {
-            CodingKind::Contacts => Coding::Contacts {
-                contacts: 8,
-                terms: Vec::new(heap),
-            },
-            CodingKind::Events => Coding::Events {
-                terms: Vec::new(heap),
-            },
-            CodingKind::Letters => Coding::Letters { width: 0 },
+        Coding {
+            kind,
+            contacts: 8,
+            width: 0,
+            contact_terms: Vec::new(heap),
+            event_terms: Vec::new(heap),
         }
     }
 
     pub fn size(&self) -> usize {
-        match self {
-            Coding::Contacts { .. } | Coding::Letters { .. } => 1,
-            Coding::Events { .. } => 3,
+        match self.kind {
+            CodingKind::Contacts | CodingKind::Letters => 1,
+            CodingKind::Events => 3,
         }
     }
 
-    // Takes a setting of its kind; one of another kind changes nothing.
+    // Takes a setting, or refuses it. One of another kind is taken or refused alike, and changes no word.
     pub fn set(&mut self, setting: Setting) -> Result<(), Stop> {
-        match self {
-            Coding::Contacts { contacts, terms } => match setting {
-                Setting::Contacts(number) => {
-                    if number == 0 || number > 8 {
-                        return Err(Stop::from(Why::Range));
-                    }
-                    *contacts = number;
-                    terms.clear();
+        match setting {
+            Setting::Contacts(contacts) => {
+                if contacts == 0 || contacts > 8 {
+                    return Err(Stop::from(Why::Range));
                 }
-                Setting::ContactTerm(term) => add(terms, term, *contacts)?,
-                _ => {}
-            },
-            Coding::Events { terms } => {
-                if let Setting::EventTerm(term) = setting {
-                    add(terms, term, ())?;
-                }
+                self.contacts = contacts;
+                self.contact_terms.clear();
+                Ok(())
             }
-            Coding::Letters { width } => {
-                if let Setting::Width(number) = setting {
-                    if number > 6 {
-                        return Err(Stop::from(Why::Range));
-                    }
-                    *width = number;
+            Setting::Width(width) => {
+                if width > 6 {
+                    return Err(Stop::from(Why::Range));
                 }
+                self.width = width;
+                Ok(())
             }
+            Setting::ContactTerm(term) => add(&mut self.contact_terms, term, self.contacts),
+            Setting::EventTerm(term) => add(&mut self.event_terms, term, ()),
         }
-        Ok(())
     }
 
     // The word of a part of a record.
     pub fn word(&self, part: &[u8]) -> Result<u16, Why> {
-        match (self, part) {
-            (Coding::Contacts { contacts, terms }, [byte]) => {
-                if has_above(*byte, *contacts) {
+        match (self.kind, part) {
+            (CodingKind::Contacts, [byte]) => {
+                if has_above(*byte, self.contacts) {
                     return Err(Why::Contact);
                 }
-                Ok(word_of(terms, *byte))
+                Ok(word_of(&self.contact_terms, *byte))
             }
-            (Coding::Letters { width }, [byte]) => {
-                if has_above(*byte, *width) {
+            (CodingKind::Letters, [byte]) => {
+                if has_above(*byte, self.width) {
                     return Err(Why::Letter);
                 }
                 Ok(u16::from(*byte))
             }
-            (Coding::Events { terms }, [code, high, low]) => {
+            (CodingKind::Events, [code, high, low]) => {
                 let event = Event {
                     code: *code,
                     hundredths: reading(*high, *low),
@@ -230,7 +215,7 @@ impl Coding {
                 if !is_reading(event.hundredths) {
                     return Err(Why::Reading);
                 }
-                Ok(word_of(terms, event))
+                Ok(word_of(&self.event_terms, event))
             }
             _ => Err(Why::SampleSize),
         }

@@ -28,9 +28,13 @@ pub struct Room {
 }
 
 // The bytes that follow their length in four bytes, and what is left after them.
+// Two looks: the library cuts in one call, and this is to be another road.
 fn measured(input: &[u8]) -> Result<(&[u8], &[u8]), Why> {
     let (len, rest) = counted(input)?;
-    rest.split_at_checked(len).ok_or(Why::Framing)
+    match (rest.get(..len), rest.get(len..)) {
+        (Some(part), Some(after)) => Ok((part, after)),
+        _ => Err(Why::Framing),
+    }
 }
 
 // Plays the record of letters with the scope table over the pattern table, with no composed table between.
@@ -73,7 +77,7 @@ fn line_of(heap: Global, outcome: Result<bool, Stop>) -> Result<String, AllocErr
 
 // What the judging call does with an input and buffers of such lengths. It refuses only a line's buffer that is too
 // short; any other refusal is the line.
-pub fn judged(heap: Global, input: &[u8], room: Room) -> Result<LineText, Stop> {
+pub fn try_judged(heap: Global, input: &[u8], room: Room) -> Result<LineText, Stop> {
     if room.line < LEAST_LINE {
         return Err(Stop::from(Why::Room));
     }
@@ -81,4 +85,15 @@ pub fn judged(heap: Global, input: &[u8], room: Room) -> Result<LineText, Stop> 
     let outcome = judged_input(heap, input, room.scratch, &mut scratch);
     let text = line_of(heap, outcome)?;
     Ok(LineText { text, scratch })
+}
+
+// The same, with no text and no scratch where it refuses, or where there is no memory. No text of a line is empty.
+pub fn judged(heap: Global, input: &[u8], room: Room) -> LineText {
+    match try_judged(heap, input, room) {
+        Ok(left) => left,
+        Err(_) => LineText {
+            text: String::new(heap),
+            scratch: Vec::new(heap),
+        },
+    }
 }

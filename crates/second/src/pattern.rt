@@ -89,6 +89,14 @@ fn is_chain(chain: &[u8]) -> bool {
 }
 
 impl<'a> PatternText<'a> {
+    // The bytes of a table's pattern, and none of another kind's.
+    pub fn table(self) -> &'a [u8] {
+        match self {
+            PatternText::Table(table) => table.bytes,
+            _ => &[],
+        }
+    }
+
     // The settings are in their ranges.
     fn is_in_range(&self) -> bool {
         match *self {

@@ -82,6 +82,14 @@ impl<'a> Text for ScopeText<'a> {
 }
 
 impl<'a> ScopeText<'a> {
+    // The bytes of a table's scope, and none of another kind's.
+    pub fn table(self) -> &'a [u8] {
+        match self {
+            ScopeText::Table(table) => table.bytes,
+            _ => &[],
+        }
+    }
+
     // The judged stretches, found by trying all pairs of places.
     // Two loops: a chain of lists in lists would be no plainer.
     pub fn try_judged<'w>(

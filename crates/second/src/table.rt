@@ -58,9 +58,10 @@ impl<'a> TableText<'a> {
         self.byte_at(self.states().saturating_add(1))
     }
 
-    // How many letters a table of this width has.
+    // How many letters a table of this width has, lawful or not: 2 to the width.
+    // By doubling: the library shifts, and this is to be another road.
     fn letters(&self) -> usize {
-        1 << self.width().min(6)
+        (0..self.width()).fold(1, |count: usize, _| count.saturating_mul(2))
     }
 
     pub fn flag(&self, state: usize) -> bool {
@@ -105,33 +106,40 @@ impl<'a> TableText<'a> {
     }
 
     // Refuses bytes that are no lawful table of the kind.
+    // By the places of the bytes: the library cuts them into parts, and this is to be another road.
     pub fn check(&self) -> Result<(), Refusal> {
-        let (states, rest) = self.bytes.split_first().ok_or(Why::TableLength)?;
-        let n = usize::from(*states);
+        if self.bytes.is_empty() {
+            return Err(Refusal::from(Why::TableLength));
+        }
+        let n = self.states();
         if n == 0 || n > self.kind.most_states() {
             return Err(Why::States.at(0));
         }
-        let (flags, rest) = rest.split_at_checked(n).ok_or(Why::TableLength)?;
-        let (width, entries) = rest.split_first().ok_or(Why::TableLength)?;
-        if let Some(state) = flags.iter().position(|flag| *flag > 1) {
-            return Err(Why::Flag.at(state.saturating_add(1)));
-        }
-        if *width > 6 {
-            return Err(Why::Width.at(n + 1));
-        }
-        if entries.len() != n << *width {
+        let front = n.saturating_add(2);
+        if self.bytes.len() < front {
             return Err(Refusal::from(Why::TableLength));
         }
-        self.check_entries(n, entries)
+        let width_at = n.saturating_add(1);
+        if let Some(place) = (1..width_at).find(|place| self.byte_at(*place) > 1) {
+            return Err(Why::Flag.at(place));
+        }
+        if self.width() > 6 {
+            return Err(Why::Width.at(width_at));
+        }
+        if self.bytes.len() != n.saturating_mul(self.letters()).saturating_add(front) {
+            return Err(Refusal::from(Why::TableLength));
+        }
+        self.check_entries(n)
     }
 
     // Each entry names one of n states.
-    fn check_entries(&self, n: usize, entries: &[u8]) -> Result<(), Refusal> {
-        let stray = entries
-            .iter()
-            .position(|entry| self.kind.target(usize::from(*entry)) >= n);
+    fn check_entries(&self, n: usize) -> Result<(), Refusal> {
+        let stray = (n.saturating_add(2)..self.bytes.len()).find(|place| self
+            .kind
+            .target(self.byte_at(*place))
+            >= n);
         match stray {
-            Some(at) => Err(Why::Entry.at(at.saturating_add(n).saturating_add(2))),
+            Some(place) => Err(Why::Entry.at(place)),
             None => Ok(()),
         }
     }
