@@ -2,3 +2,4 @@ pub mod Numbering
 pub mod Adding
 pub mod Plain
 pub mod Saying
+pub mod Fitting

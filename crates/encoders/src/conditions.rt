@@ -1,4 +1,4 @@
-ghost use Rattle.std.specs.Prelude.{◌≡◌, ⊤, length, ◌∷◌, ◌++◌, MatchResult, false, true, slice_index_or, []};
+ghost use Rattle.std.specs.Prelude.{◌≡◌, ⊤, length, ◌∷◌, ◌++◌, MatchResult, false, true, slice_index_or, [], position};
 ghost use Rattle.std.specs.List.{list_any};
 ghost use Rattle.rules.specs.declared.refusal.SettingRefusal.TheVariants.{Full};
 ghost use Rattle.rules.specs.Few.{items_of};
@@ -65,9 +65,18 @@ impl<T: Term> Conditions<T> {
     }
 }
 
+// The place of the first term that fits. By `position`: with `any`, a sample of few terms was compiled to half as much
+// work again.
+fn first_fit<T: Term>(terms: &Terms<T>, sample: T::Sample) -> Option<usize>
+    ensures { result ≡ position (λ t. T.Term.fits t sample) (items_of terms.now) }
+{
+    terms.as_slice().iter().position(|term| term.fits(sample))
+}
+
 // Whether at least one of the terms fits.
+#[tactic(auto, using(crate::proofs::Fitting::placed))]
 fn fit<T: Term>(terms: &Terms<T>, sample: T::Sample) -> bool
     ensures { result ≡ list_any (λ t. T.Term.fits t sample) (items_of terms.now) }
 {
-    terms.as_slice().iter().any(|term| term.fits(sample))
+    first_fit(terms, sample).is_some()
 }
