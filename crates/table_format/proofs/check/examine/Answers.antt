@@ -18,16 +18,16 @@ pub returns-then-entries-rows : goal.returns-then-entries-rows
 returns-then-entries-rows c =
     let x = c.in-Some-default-len1-up in
     wrong_length c.args.kind c.args.bytes.now x.flags.now x.field-0-1.now c.if-n-eq0.false (omega arith) c.in-len1-up.len_at_least x.ensures.cases x.len_at_least
-    c.in_default-first_bad_flag.ensures c.if-width-gt-WIDEST.false _ refl _ refl c.if-entries-rows.true
+    c.in_default-first_bad_flag.ensures c.if-width-gt-WIDEST.false _ refl _ refl (λ e. omega (arith, c.if-entries-rows.true, e))
 
 pub returns-in-Some-first_bad_entry : goal.returns-in-Some-first_bad_entry
 returns-in-Some-first_bad_entry c =
     let x = c.in-Some-default-len1-up in
     entry_found c.args.kind c.args.bytes.now x.flags.now x.field-0-1.now c.if-n-eq0.false (omega arith) c.in-len1-up.len_at_least x.ensures.cases x.len_at_least
-    c.in_default-first_bad_flag.ensures c.if-width-gt-WIDEST.false _ refl _ refl c.if-entries-rows.false c.in-Some-first_bad_entry.at c.in-Some-first_bad_entry.ensures
+    c.in_default-first_bad_flag.ensures c.if-width-gt-WIDEST.false _ refl _ refl (omega (arith, c.if-entries-rows.false)) c.in-Some-first_bad_entry.at c.in-Some-first_bad_entry.ensures
 
 pub returns-in-None : goal.returns-in-None
 returns-in-None c =
     let x = c.in-Some-default-len1-up in
     all_fine c.args.kind c.args.bytes.now x.flags.now x.field-0-1.now c.if-n-eq0.false (omega arith) c.in-len1-up.len_at_least x.ensures.cases x.len_at_least
-    c.in_default-first_bad_flag.ensures c.if-width-gt-WIDEST.false _ refl _ refl c.if-entries-rows.false c.in-None.ensures
+    c.in_default-first_bad_flag.ensures c.if-width-gt-WIDEST.false _ refl _ refl (omega (arith, c.if-entries-rows.false)) c.in-None.ensures
