@@ -65,8 +65,8 @@ impl<T: Term> Conditions<T> {
     }
 }
 
-// The place of the first term that fits. By `position`: with `any`, a sample of few terms was compiled to half as much
-// work again.
+// The place of the first term that fits. By `position`: with `any`, a sample of few terms or none was compiled to half
+// to four fifths more work.
 fn first_fit<T: Term>(terms: &Terms<T>, sample: T::Sample) -> Option<usize>
     ensures { result ≡ position (λ t. T.Term.fits t sample) (items_of terms.now) }
 {

@@ -59,7 +59,7 @@ pub enum CodingKind {
 }
 
 // An encoder: its kind, and all that was set, in the order in which it came. A list of terms for each condition is the
-// library's way. No enum with values: a setting of another kind is refused by what was set before it.
+// library's way. No enum with values: a setting of another kind is judged by what was set before it.
 #[derive(Drop)]
 pub struct Coding {
     pub kind: CodingKind,

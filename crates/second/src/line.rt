@@ -87,7 +87,7 @@ pub fn try_judged(heap: Global, input: &[u8], room: Room) -> Result<LineText, St
     Ok(LineText { text, scratch })
 }
 
-// The same, with no text and no scratch where it refuses, or where there is no memory. No text of a line is empty.
+// The same, with no text and no scratch where it refuses, or where there is no memory. The text of a line is never empty.
 pub fn judged(heap: Global, input: &[u8], room: Room) -> LineText {
     match try_judged(heap, input, room) {
         Ok(left) => left,

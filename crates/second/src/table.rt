@@ -218,7 +218,8 @@ impl<'a> Pair<'a> {
             State::Failed => return State::Failed,
         };
         let entry = self.scope.entry(s, letter);
-        let t = self.scope.kind.target(entry);
+        // of a scope's entry, of whatever kind the table says it is
+        let t = entry % 64;
         let on = self.pattern.entry(q.unwrap_or(0), letter);
         let sound = match mark_of(entry) {
             Mark::In => return State::Open(t, on),
