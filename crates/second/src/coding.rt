@@ -1,3 +1,6 @@
+ghost use Rattle.std.specs.Prelude.{◌≡◌, ◌++◌, ◌∷◌, [], true, IfErr, OnOk};
+ghost use Rattle.second.specs.Asked.{kind_of, StopIf, Kept};
+
 use crate::refusal::{Stop, Why};
 use crate::words::{bit, has};
 use std::alloc::Global;
@@ -51,7 +54,7 @@ pub enum Setting {
     Width(u8),
 }
 
-#[derive(Clone, Copy, Debug)]
+#[derive(Clone, Copy, PartialEq, Debug)]
 pub enum CodingKind {
     Contacts,
     Events,
@@ -121,11 +124,16 @@ impl Ask for EventAsk {
     }
 }
 
+// Adds a term. One that no word asks for is taken, too, where there is no memory to keep it.
 fn add<T: Ask + Copy>(
     terms: &mut Vec<Term<T>>,
     term: Term<T>,
     limit: T::Limit,
-) -> Result<(), Stop> {
+    is_asked: bool,
+) -> Result<(), Stop>
+    ensures stopped { IfErr result (StopIf (is_asked ≡ true)) }
+    ensures kept { OnOk result (is_asked ≡ true → terms.new.items ≡ terms.old.items ++ term ∷ []) }
+{
     if term.condition > 15 {
         return Err(Stop::from(Why::Range));
     }
@@ -139,8 +147,10 @@ fn add<T: Ask + Copy>(
     if same >= MOST_TERMS {
         return Err(Stop::from(Why::ManyTerms));
     }
-    terms.push(term)?;
-    Ok(())
+    match terms.push(term) {
+        Err(failed) if is_asked => Err(Stop::from(failed)),
+        _ => Ok(()),
+    }
 }
 
 // The word of the conditions of which a term asks no more than the sample is.
@@ -169,8 +179,12 @@ impl Coding {
         }
     }
 
-    // Takes a setting, or refuses it. One of another kind is taken or refused alike, and changes no word.
-    pub fn set(&mut self, setting: Setting) -> Result<(), Stop> {
+    // Takes a setting, or refuses it. One of another kind is taken or refused alike, and changes no word: so it is
+    // taken, too, where there is no memory to keep it.
+    pub fn set(&mut self, setting: Setting) -> Result<(), Stop>
+        ensures stopped { IfErr result (StopIf (kind_of setting ≡ self.old.kind)) }
+        ensures kept { OnOk result (kind_of setting ≡ self.old.kind → Kept setting self.old self.new) }
+    {
         match setting {
             Setting::Contacts(contacts) => {
                 if contacts == 0 || contacts > 8 {
@@ -187,8 +201,18 @@ impl Coding {
                 self.width = width;
                 Ok(())
             }
-            Setting::ContactTerm(term) => add(&mut self.contact_terms, term, self.contacts),
-            Setting::EventTerm(term) => add(&mut self.event_terms, term, ()),
+            Setting::ContactTerm(term) => add(
+                &mut self.contact_terms,
+                term,
+                self.contacts,
+                self.kind == CodingKind::Contacts,
+            ),
+            Setting::EventTerm(term) => add(
+                &mut self.event_terms,
+                term,
+                (),
+                self.kind == CodingKind::Events,
+            ),
         }
     }
 
@@ -219,5 +243,43 @@ impl Coding {
             }
             _ => Err(Why::SampleSize),
         }
+    }
+}
+
+#[cfg(test)]
+mod tests {
+    use super::*;
+
+    // What each setting of another kind comes to; with the letter 2 the word stays as it was.
+    #[test]
+    fn a_setting_of_another_kind_changes_no_word(rt: HostRuntime) {
+        let contact = ContactAsk { care: 4, want: 4 };
+        let event = EventAsk {
+            code: 2,
+            low: -1,
+            high: 1,
+        };
+        let mut letters = Coding::new(rt.alloc(), CodingKind::Letters);
+        let settings = [
+            Setting::Width(2),
+            Setting::ContactTerm(Term {
+                condition: 3,
+                ask: contact,
+            }),
+            Setting::EventTerm(Term {
+                condition: 3,
+                ask: event,
+            }),
+            Setting::Contacts(2),
+        ];
+        for setting in settings {
+            assert!(rt; letters.set(setting).is_ok());
+        }
+        assert_eq!(rt; letters.word(&[2]), Ok(2));
+        // judged by the two contacts set before it
+        let wrong = letters
+            .set(settings[1])
+            .map_err(|stop| stop.refusal().map(|refusal| refusal.why));
+        assert!(rt; matches!(wrong, Err(Ok(Why::Term))));
     }
 }

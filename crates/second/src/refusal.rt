@@ -1,3 +1,6 @@
+ghost use Rattle.std.specs.Prelude.{◌≡◌, None};
+ghost use Rattle.second.specs.declared.refusal.Stop.TheVariants.{Refused};
+
 use std::alloc::{AllocError, AllocFailed};
 
 // Why the rules refuse something, with the number that they give it.
@@ -80,6 +83,8 @@ impl Why {
 }
 
 impl From<Why> for Refusal {
+    ghost from_gives = { λ why refusal. refusal ≡ record { why = why; place = None; count = None } };
+
     fn from(why: Why) -> Refusal {
         Refusal {
             why,
@@ -118,6 +123,8 @@ impl From<Refusal> for Stop {
 }
 
 impl From<Why> for Stop {
+    ghost from_gives = { λ why stop. stop ≡ Refused (record { why = why; place = None; count = None }) };
+
     fn from(why: Why) -> Stop {
         Stop::Refused(Refusal::from(why))
     }
