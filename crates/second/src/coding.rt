@@ -1,9 +1,11 @@
-ghost use Rattle.std.specs.Prelude.{◌≡◌, ◌++◌, ◌∷◌, [], true, IfErr, OnOk};
-ghost use Rattle.second.specs.Asked.{kind_of, StopIf, Kept};
+ghost use Rattle.std.specs.Prelude.{◌≡◌, ◌≢◌, ◌<◌, ◌⊎◌, ◌++◌, ◌∷◌, [], true, false, nat_le, Err, IfErr, OnErr, OnOk};
+ghost use Rattle.second.specs.Settings.{kind_of, held, with_setting, in_range, is_term, bare, StopOf};
+ghost use Rattle.second.specs.declared.refusal.Stop.TheVariants.{Refused};
+ghost use Rattle.second.specs.declared.refusal.Why.TheVariants.{Range};
 
 use crate::refusal::{Stop, Why};
 use crate::words::{bit, has};
-use std::alloc::Global;
+use std::alloc::{AllocError, Global};
 
 // How many terms a condition can have.
 const MOST_TERMS: usize = 8;
@@ -131,8 +133,10 @@ fn add<T: Ask + Copy>(
     limit: T::Limit,
     is_asked: bool,
 ) -> Result<(), Stop>
-    ensures stopped { IfErr result (StopIf (is_asked ≡ true)) }
-    ensures kept { OnOk result (is_asked ≡ true → terms.new.items ≡ terms.old.items ++ term ∷ []) }
+    ensures range { 15 < term.condition → result ≡ Err (Refused (bare Range)) }
+    ensures stopped { IfErr result (StopOf (nat_le term.condition 15) true (is_asked ≡ true)) }
+    ensures refused { OnErr result (terms.new.items ≡ terms.old.items) }
+    ensures taken { OnOk result ((terms.new.items ≡ terms.old.items ++ term ∷ []) ⊎ ((is_asked ≡ false) × (terms.new.items ≡ terms.old.items))) }
 {
     if term.condition > 15 {
         return Err(Stop::from(Why::Range));
@@ -148,7 +152,7 @@ fn add<T: Ask + Copy>(
         return Err(Stop::from(Why::ManyTerms));
     }
     match terms.push(term) {
-        Err(failed) if is_asked => Err(Stop::from(failed)),
+        Err(failed) if is_asked => Err(Stop::NoMemory(AllocError::from(failed))),
         _ => Ok(()),
     }
 }
@@ -182,8 +186,10 @@ impl Coding {
     // Takes a setting, or refuses it. One of another kind is taken or refused alike, and changes no word: so it is
     // taken, too, where there is no memory to keep it.
     pub fn set(&mut self, setting: Setting) -> Result<(), Stop>
-        ensures stopped { IfErr result (StopIf (kind_of setting ≡ self.old.kind)) }
-        ensures kept { OnOk result (kind_of setting ≡ self.old.kind → Kept setting self.old self.new) }
+        ensures range { in_range setting ≡ false → result ≡ Err (Refused (bare Range)) }
+        ensures stopped { IfErr result (StopOf (in_range setting) (is_term setting) (kind_of setting ≡ self.old.kind)) }
+        ensures refused { OnErr result (held self.new ≡ held self.old) }
+        ensures taken { OnOk result ((held self.new ≡ with_setting setting (held self.old)) ⊎ ((kind_of setting ≢ self.old.kind) × (held self.new ≡ held self.old))) }
     {
         match setting {
             Setting::Contacts(contacts) => {

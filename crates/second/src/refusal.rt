@@ -1,4 +1,5 @@
-ghost use Rattle.std.specs.Prelude.{◌≡◌, None};
+ghost use Rattle.std.specs.Prelude.{◌≡◌};
+ghost use Rattle.second.specs.Settings.{bare};
 ghost use Rattle.second.specs.declared.refusal.Stop.TheVariants.{Refused};
 
 use std::alloc::{AllocError, AllocFailed};
@@ -83,7 +84,7 @@ impl Why {
 }
 
 impl From<Why> for Refusal {
-    ghost from_gives = { λ why refusal. refusal ≡ record { why = why; place = None; count = None } };
+    ghost from_gives = { λ why refusal. refusal ≡ bare why };
 
     fn from(why: Why) -> Refusal {
         Refusal {
@@ -123,7 +124,7 @@ impl From<Refusal> for Stop {
 }
 
 impl From<Why> for Stop {
-    ghost from_gives = { λ why stop. stop ≡ Refused (record { why = why; place = None; count = None }) };
+    ghost from_gives = { λ why stop. stop ≡ Refused (bare why) };
 
     fn from(why: Why) -> Stop {
         Stop::Refused(Refusal::from(why))
