@@ -28,14 +28,14 @@ Held = CodingKind × ℕ × ℕ × List (Term ContactAsk) × List (Term EventAsk
 abbrev pub held : Coding → Held
 held c = (c.kind, c.contacts, c.width, c.contact_terms.items, c.event_terms.items)
 
--- with another number of contacts the terms of contacts begin anew; a term comes last
+-- setting how many contacts there are takes their terms away, even where the number stays; a term comes last
 abbrev pub with_setting : Setting → Held → Held
 with_setting (ContactsSet contacts) h = (h.0, contacts, h.2, [], h.4)
 with_setting (ContactTerm term) h = (h.0, h.1, h.2, h.3 ++ term ∷ [], h.4)
 with_setting (EventTerm term) h = (h.0, h.1, h.2, h.3, h.4 ++ term ∷ [])
 with_setting (Width width) h = (h.0, h.1, width, h.3, h.4)
 
--- the numbers of a setting are in their ranges
+-- the number of contacts, the width or the condition of a term is in its range; a wrong reading is a wrong term
 abbrev pub in_range : Setting → Bool
 in_range (ContactsSet contacts) = nat_le 1 contacts && nat_le contacts 8
 in_range (ContactTerm term) = nat_le term.condition 15

@@ -189,7 +189,7 @@ impl Coding {
         ensures range { in_range setting ≡ false → result ≡ Err (Refused (bare Range)) }
         ensures stopped { IfErr result (StopOf (in_range setting) (is_term setting) (kind_of setting ≡ self.old.kind)) }
         ensures refused { OnErr result (held self.new ≡ held self.old) }
-        ensures taken { OnOk result ((held self.new ≡ with_setting setting (held self.old)) ⊎ ((kind_of setting ≢ self.old.kind) × (held self.new ≡ held self.old))) }
+        ensures taken { OnOk result ((held self.new ≡ with_setting setting (held self.old)) ⊎ ((is_term setting ≡ true) × (kind_of setting ≢ self.old.kind) × (held self.new ≡ held self.old))) }
     {
         match setting {
             Setting::Contacts(contacts) => {
